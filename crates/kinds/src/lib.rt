@@ -1,0 +1,2 @@
+// Values of a heating hub's journal: how they are refused, read from bytes, and compared.
+pub mod refusal;
