@@ -1,1 +1,5 @@
+pub mod Cases
+pub mod Labels
+pub mod Numbers
+pub mod Readings
 pub mod Refusals
