@@ -3,7 +3,7 @@ ghost use mathlib.Core.Path.{_≡_};
 ghost use mathlib.Core.List.{List, []};
 ghost use Prim.Native.Nat.{ℕ, _+_, _*_, _^_, _≤_};
 ghost use denote.Param.{layout};
-ghost use prog.Memory.{size};
+ghost use prog.Memory.{align, size};
 ghost use Rattle.std.specs.Orderings.{Decides};
 ghost use Rattle.std.specs.declared.result.Result.{Result};
 ghost use Rattle.std.specs.declared.result.Result.the-variants.{Ok};
@@ -52,7 +52,7 @@ pub trait Kind {
     law modest: { longest ≤ 65536 };
 
     // A handful of values has a place in memory.
-    law small: { size (layout Self·Value·row) ≤ 2 ^ 32 };
+    law small: { (size (layout Self·Value·row) ≤ 2 ^ 32) × (align (layout Self·Value·row) ≤ 2 ^ 32) };
 
     // Whether two values have one class.
     fn same(a: &Self::Value, b: &Self::Value) -> bool
