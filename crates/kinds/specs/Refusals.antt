@@ -5,7 +5,7 @@ use lib.Chars.{codes}
 use Rattle.kinds.specs.declared.refusal.Layer.{Layer}
 use Rattle.kinds.specs.declared.refusal.Layer.the-variants.{Number, Value, Journal, Text, Watch, Mailbox}
 use Rattle.kinds.specs.declared.refusal.Reason.{Reason}
-use Rattle.kinds.specs.declared.refusal.Reason.the-variants.{Cut, Overlong, OtherHead, WildId, TooManyValues, BadLabel, TooLong}
+use Rattle.kinds.specs.declared.refusal.Reason.the-variants.{Cut, Overlong, OtherHead, WildId, TooManyValues, BadLabel, TooLong, NoRoom}
 use Rattle.kinds.specs.declared.refusal.Fault.{Fault}
 use Rattle.kinds.specs.declared.refusal.Refusal.{Refusal}
 
@@ -27,6 +27,7 @@ number-of WildId = 4  -- an event's id is over 131,071
 number-of TooManyValues = 5  -- a call has over 5 values, or a return over 1
 number-of BadLabel = 6  -- a label's length or one of its bytes is wrong
 number-of TooLong = 7  -- a journal has over 65,536 bytes
+number-of NoRoom = 50  -- a mailbox holds as many events as it has places
 
 -- A fault at a place.
 abbrev pub placed : Fault → ℕ → Refusal

@@ -30,6 +30,8 @@ pub enum Reason {
     BadLabel,
     // a journal has over 65,536 bytes
     TooLong,
+    // a mailbox holds as many events as it has places
+    NoRoom,
 }
 
 // A fault as the layer finds it, before anyone has told its place.
@@ -83,6 +85,7 @@ impl Reason {
             Reason::TooManyValues => 5,
             Reason::BadLabel => 6,
             Reason::TooLong => 7,
+            Reason::NoRoom => 50,
         }
     }
 }
