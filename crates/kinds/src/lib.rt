@@ -1,2 +1,4 @@
 // Values of a heating hub's journal: how they are refused, read from bytes, and compared.
+pub mod phase;
 pub mod refusal;
+pub mod watch_reason;

@@ -1,4 +1,5 @@
 // Refusals: which layer found a fault, what it is, and where.
+use crate::watch_reason::{WatchReason, WatchReasonDebug, WatchReasonPartialEq};
 ghost use mathlib.Core.Path.{_≡_};
 ghost use Rattle.kinds.specs.Refusals.{name-of, number-of, placed};
 
@@ -30,6 +31,8 @@ pub enum Reason {
     BadLabel,
     // a journal has over 65,536 bytes
     TooLong,
+    // what only a watch refuses
+    Watch(WatchReason),
 }
 
 // A fault as the layer finds it, before anyone has told its place.
@@ -76,6 +79,7 @@ impl Reason {
             Reason::TooManyValues => 5,
             Reason::BadLabel => 6,
             Reason::TooLong => 7,
+            Reason::Watch(reason) => reason.number(),
         }
     }
 }
