@@ -1,5 +1,7 @@
 // Refusals: which layer found a fault, what it is, and where.
-use crate::watch_reason::{WatchReason, WatchReasonDebug, WatchReasonPartialEq};
+use crate::watch_reason::WatchReason;
+use crate::watch_reason::WatchReasonDebug;
+use crate::watch_reason::WatchReasonPartialEq;
 ghost use mathlib.Core.Path.{_≡_};
 ghost use Rattle.kinds.specs.Refusals.{name-of, number-of, placed};
 
