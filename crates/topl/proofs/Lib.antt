@@ -12,3 +12,9 @@ pub mod Step
 pub mod Replays
 pub mod Verdicts
 pub mod Bounded
+pub mod Calls
+pub mod Lasting
+pub mod Changes
+pub mod Telling
+pub mod Answered
+pub mod Determined

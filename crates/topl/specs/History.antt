@@ -245,8 +245,8 @@ Telling-on = (m n : Moment) (h : Log) → Sound (m .ledger) → History m h n �
 -- All paths that a history writes are those of one run, the one that the ledger keeps at its end.
 abbrev pub One-run : Type 0
 One-run =
-    (m n : Moment) (h : Log) → History m h n → (page after : List ℕ) (count : ℕ) → (ask-path page, wrote count after) ∈ h →
-    (n .ledger .phase ≡ Broken) × (wrote count after ≡ path-on (n .ledger) page)
+    (m n : Moment) (h : Log) → History m h n → (page filled : List ℕ) (size : ℕ) → (ask-path page, wrote size filled) ∈ h →
+    (n .ledger .phase ≡ Broken) × (wrote size filled ≡ path-on (n .ledger) page)
 
 -- Every call has an answer at every moment, and so every list of calls has a history.
 abbrev pub Answered : Type 0

@@ -1,5 +1,6 @@
 // The theory of the watch: automata, runs, the deciding rule and the ledger. Each function is a theorem, which its contract states.
 ghost use Rattle.topl.specs.Theorems.{Bounded, Decides, Enumerates, Finding, Gains, Persists, Recognizes, Replays, Stepping, Verdicts, Watching};
+ghost use Rattle.topl.specs.History.{Answered, Determined, Lasting, One-run, Telling};
 
 // Settled runs persist: events that come later, and the end of the list, leave them runs with the same steps.
 pub fn settled_runs_persist()
@@ -54,4 +55,29 @@ pub fn judged_events_are_few()
 // What is decided is right by the language.
 pub fn verdicts_agree_with_the_language()
     ensures { λ _. ⌜ Verdicts ⌝ }
+{}
+
+// Every call keeps what the ledger's phase says true.
+pub fn the_ledger_stays_sound()
+    ensures { λ _. ⌜ Lasting ⌝ }
+{}
+
+// Every history of calls is true as a whole: at every moment, and in every call.
+pub fn histories_are_true()
+    ensures { λ _. ⌜ Telling ⌝ }
+{}
+
+// All paths that a history writes are those of one run.
+pub fn paths_show_one_run()
+    ensures { λ _. ⌜ One-run ⌝ }
+{}
+
+// Every call has an answer at every moment.
+pub fn every_call_is_answered()
+    ensures { λ _. ⌜ Answered ⌝ }
+{}
+
+// Only the shown run is free.
+pub fn answers_are_determined()
+    ensures { λ _. ⌜ Determined ⌝ }
 {}
