@@ -18,3 +18,5 @@ pub mod Changes
 pub mod Telling
 pub mod Answered
 pub mod Determined
+pub mod Sole
+pub mod Days

@@ -8,3 +8,4 @@ pub mod Deciding
 pub mod Ledger
 pub mod Theorems
 pub mod History
+pub mod Days
