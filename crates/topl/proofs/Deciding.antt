@@ -121,7 +121,7 @@ module _ (f : ℕ → Ruling) where
   first-all zero p g = refl
   first-all (suc n) p g = or-else-next (f p) (first-ruling f n (suc p)) goes-on (g p (omega arith) (omega arith)) (first-all n (suc p) (λ q l₁ l₂. g q (omega arith) (omega arith)))
 
-any-error-sound : (cs : List Configuration) → any-error cs ≡ true → (c : Configuration) × (c ∈ cs) × (c .state ≡ error)
+pub any-error-sound : (cs : List Configuration) → any-error cs ≡ true → (c : Configuration) × (c ∈ cs) × (c .state ≡ error)
 any-error-sound [] e = absurd (false≢true e)
 any-error-sound (c ∷ cs) e = go (any-error-sound cs) (or-cases (eqb (c .state) error) (any-error cs) e)
   where
@@ -129,7 +129,7 @@ any-error-sound (c ∷ cs) e = go (any-error-sound cs) (or-cases (eqb (c .state)
     go below (inl k) = (c, List·Memᴰ·head refl, eqb-true (c .state) error k)
     go below (inr k) = let b = below k in (b .0, List·Memᴰ·tail (b .1), b .2)
 
-any-error-complete : {c : Configuration} (cs : List Configuration) → c ∈ cs → c .state ≡ error → any-error cs ≡ true
+pub any-error-complete : {c : Configuration} (cs : List Configuration) → c ∈ cs → c .state ≡ error → any-error cs ≡ true
 any-error-complete [] m e = absurd (List·Memᴰ·not-nil m)
 any-error-complete {c} (d ∷ cs) m e = go (any-error-complete cs) (List·Memᴰ·cases-cons m)
   where

@@ -20,3 +20,4 @@ pub mod Answered
 pub mod Determined
 pub mod Sole
 pub mod Days
+pub mod Examples

@@ -9,3 +9,4 @@ pub mod Ledger
 pub mod Theorems
 pub mod History
 pub mod Days
+pub mod Examples

@@ -1,6 +1,8 @@
 // The theory of the watch: automata, runs, the deciding rule and the ledger. Each function is a theorem, which its contract states.
 ghost use Rattle.topl.specs.Theorems.{Bounded, Decides, Enumerates, Finding, Gains, Persists, Recognizes, Replays, Stepping, Verdicts, Watching};
 ghost use Rattle.topl.specs.History.{Answered, Determined, Lasting, One-run, Telling};
+ghost use Rattle.topl.specs.Days.{Worked};
+ghost use Rattle.topl.specs.Examples.{Examples, Excluded};
 
 // Settled runs persist: events that come later, and the end of the list, leave them runs with the same steps.
 pub fn settled_runs_persist()
@@ -80,4 +82,19 @@ pub fn every_call_is_answered()
 // Only the shown run is free.
 pub fn answers_are_determined()
     ensures { λ _. ⌜ Determined ⌝ }
+{}
+
+// The worked days.
+pub fn worked_days_hold()
+    ensures { λ _. ⌜ Worked ⌝ }
+{}
+
+// A worked history for each clause that no worked day shows.
+pub fn worked_examples_hold()
+    ensures { λ _. ⌜ Examples ⌝ }
+{}
+
+// Three readings that the rules exclude.
+pub fn other_readings_fail()
+    ensures { λ _. ⌜ Excluded ⌝ }
 {}
