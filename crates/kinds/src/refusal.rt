@@ -52,6 +52,13 @@ pub struct Refusal {
     pub place: usize,
 }
 
+// How a list of events ends: at its end, or with a refusal.
+#[derive(Clone, Copy, PartialEq, Eq, Debug)]
+pub enum Ending {
+    End,
+    Refused(Refusal),
+}
+
 impl Layer {
     // The layer's name, as it is printed.
     pub fn name(self) -> &'static str

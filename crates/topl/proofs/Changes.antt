@@ -16,11 +16,13 @@ use Rattle.kinds.specs.declared.refusal.Reason.{Reason}
 use Rattle.kinds.specs.declared.refusal.Refusal.{Refusal}
 use Rattle.kinds.specs.declared.refusal.Reason.the-variants.{Watch as of-watch}
 use Rattle.kinds.specs.declared.watch_reason.WatchReason.the-variants.{NotBegun, IsBroken, IsSpilled, IsFull, IsKept, NotBroken, SmallPage}
+use Rattle.kinds.specs.declared.refusal.Ending.{Ending}
+use Rattle.kinds.specs.declared.refusal.Ending.the-variants.{End, Refused}
 use Rattle.topl.specs.Lists.{Class}
 use Rattle.topl.specs.Table.{Event, Table}
 use Rattle.topl.specs.Runs.{closed, closing, settled}
 use Rattle.topl.specs.Deciding.{Ruling, breaks, goes-on, overfills, spills}
-use Rattle.topl.specs.Ledger.{Answer, Closes, Ending, Feeds, Ledger, Settles, Source, Takes, at-end, began, begin-reason, begun, draws-by, event-reason, no-event, no-source, on-page, opening-reason, passed-on, path-on, phase-reason, refusal, refuse, refused, refusing, rule, says, unwritten, verdict, with-event, wrote}
+use Rattle.topl.specs.Ledger.{Answer, Closes, Feeds, Ledger, Settles, Source, Takes, began, begin-reason, begun, draws-by, event-reason, no-event, no-source, on-page, opening-reason, passed-on, path-on, phase-reason, refusal, refuse, refused, rule, says, unwritten, verdict, with-event, wrote}
 use Rattle.topl.specs.History.{Call, Does, Means, Moment, Sound, Turns, ask-path, ask-verdict, begun-as, begun-with, drawn-from, draws-at, first-of, is-running, judges, says-phase, to-begin, to-close, to-draw, to-feed}
 use Rattle.topl.proofs.Calls.{fed-parts, closed-parts, begun-parts, not-refused, phase-runs}
 
@@ -142,8 +144,8 @@ takes-changes l [] end r s′ S i t = record {
 }
   where
     passed : (end : Ending) → r ≡ (l, passed-on end) → Changes l [] r
-    passed at-end e = nothing-said l [] no-event r refl (λ p x i. let z : _≡_ {A = ℕ} 0 1 = cc in omega arith) e
-    passed (refusing f) e = refused-changes l [] f r e
+    passed End e = nothing-said l [] no-event r refl (λ p x i. let z : _≡_ {A = ℕ} 0 1 = cc in omega arith) e
+    passed (Refused f) e = refused-changes l [] f r e
 takes-changes l (e ∷ es) end r s′ S i t = record {
   changes = feed-changes l e r (t .0);
   source = t .1 ∙ ap (λ (b : Bool). cond b (record { waiting = es; ending = end }) (record { waiting = e ∷ es; ending = end })) (ap is-running (sym i));

@@ -12,11 +12,12 @@ use Rattle.kinds.specs.declared.phase.Phase.the-variants.{Running, Broken, Spil
 use Rattle.kinds.specs.declared.refusal.Reason.{Reason}
 use Rattle.kinds.specs.declared.refusal.Reason.the-variants.{Watch as of-watch}
 use Rattle.kinds.specs.declared.watch_reason.WatchReason.the-variants.{IsSpilled, IsFull}
+use Rattle.kinds.specs.declared.refusal.Ending.{Ending}
 use Rattle.topl.specs.Lists.{Class}
 use Rattle.topl.specs.Table.{Event, Table}
 use Rattle.topl.specs.Runs.{World, closing}
 use Rattle.topl.specs.Deciding.{Ruling, breaks, goes-on, overfills, spills}
-use Rattle.topl.specs.Ledger.{Answer, Begins, Closes, Ending, Feeds, Ledger, Settles, Source, Takes, began, begin-reason, begun, broken-at, draws-by, feed-reason, passed-on, phase-reason, refuse, rule, says, turned, unless, verdict, with-event, world}
+use Rattle.topl.specs.Ledger.{Answer, Begins, Closes, Feeds, Ledger, Settles, Source, Takes, began, begin-reason, begun, broken-at, draws-by, feed-reason, passed-on, phase-reason, refuse, rule, says, turned, unless, verdict, with-event, world}
 use Rattle.topl.specs.History.{Call, Determined, Does, Moment, Same-but-shown, ask-path, ask-verdict, bare, but-paths, calls-of, draws-at, to-begin, to-close, to-draw, to-feed}
 
 -- a result without the shown run

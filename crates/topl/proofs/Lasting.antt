@@ -16,11 +16,12 @@ use Rattle.kinds.specs.declared.phase.Phase.the-variants.{Running, Kept, Broken
 use Rattle.kinds.specs.declared.refusal.Reason.{Reason}
 use Rattle.kinds.specs.declared.refusal.Reason.the-variants.{Watch as of-watch}
 use Rattle.kinds.specs.declared.watch_reason.WatchReason.the-variants.{BegunAlready, BadCap, OtherConstants, SmallBoard}
+use Rattle.kinds.specs.declared.refusal.Ending.{Ending}
 use Rattle.topl.specs.Lists.{Class, _∈_}
 use Rattle.topl.specs.Table.{Event, Table, error}
 use Rattle.topl.specs.Runs.{Configuration, Reaches, Registers, closing, first-configuration, reached, runs, so-far}
 use Rattle.topl.specs.Deciding.{Ruling, breaks, count, goes-on, overfills, spills}
-use Rattle.topl.specs.Ledger.{Answer, Begins, Closes, Ending, Feeds, Ledger, Settles, Source, Takes, began, begin-reason, draws-by, initial, is-blank, passed-on, phase-reason, refuse, registers-of, rule, with-event}
+use Rattle.topl.specs.Ledger.{Answer, Begins, Closes, Feeds, Ledger, Settles, Source, Takes, began, begin-reason, draws-by, initial, is-blank, passed-on, phase-reason, refuse, registers-of, rule, with-event}
 use Rattle.topl.specs.Theorems.{Steady}
 use Rattle.topl.specs.History.{Lasting, Sound}
 use Rattle.topl.proofs.Persist.{persists, reach-bound}

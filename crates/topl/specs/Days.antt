@@ -1,10 +1,8 @@
 -- Worked days: what the definitions say of the calls of a few days, by computing.
 use Prim.Native.Nat.{ℕ, suc, _+_}
 use mathlib.Core.Path.{_≡_}
-use mathlib.Core.Bool.{cond, _&&_}
 use mathlib.Core.List.{List, [], _∷_, _++_, map}
 use lib.ListN.{take, replicate}
-use lib.Dec.{leb}
 use lib.Chars.{codes}
 use Rattle.std.specs.declared.option.Option.the-variants.{Some, None}
 use Rattle.kinds.specs.declared.phase.Phase.the-variants.{Blank, Running, Broken, Spilled, Full, Kept}
@@ -14,10 +12,12 @@ use Rattle.kinds.specs.declared.refusal.Reason.the-variants.{Cut, WildId, TooMa
 use Rattle.kinds.specs.declared.watch_reason.WatchReason.{WatchReason}
 use Rattle.kinds.specs.declared.watch_reason.WatchReason.the-variants.{NotBegun, BegunAlready, BadCap, OtherConstants, SmallBoard, OtherArity, IsBroken, IsSpilled, IsFull, IsKept, NotBroken, SmallPage}
 use Rattle.kinds.specs.declared.refusal.Refusal.{Refusal}
+use Rattle.kinds.specs.Numbers.{number-class}
+use Rattle.kinds.specs.Labels.{label-of, label-class}
 use Rattle.topl.specs.Lists.{Class, nothing}
 use Rattle.topl.specs.Table.{Event, call-id, return-id, Any, Write, Same, Differs, call-label, return-label, whole-label, statement, Table, start, error}
 use Rattle.topl.specs.Runs.{so-far, closing, Error-at}
-use Rattle.topl.specs.Ledger.{Ledger, fresh, began, turned, broken-at, Answer, begun, no-event, no-source, says, verdict-is, wrote, unwritten, refused, at-end, refusing, Source, registers-of}
+use Rattle.topl.specs.Ledger.{Ledger, fresh, began, turned, broken-at, Answer, begun, no-event, no-source, says, verdict-is, wrote, unwritten, refused, Source, registers-of}
 use Rattle.topl.specs.History.{Call, to-begin, to-feed, to-draw, to-close, ask-verdict, ask-path, Moment, made, Log, calls-of, History, In-language}
 
 -- This is a history of these calls, and there is no other: the answers, and what there is at the end.
@@ -27,7 +27,7 @@ Only m h n = History m h n × ((h′ : Log) (n′ : Moment) → calls-of h′ �
 -- EVENTS AND ANSWERS, in short
 -- the class of a number
 abbrev pub number : ℕ → Class
-number n = n ∷ []
+number n = number-class (Some n)
 
 abbrev pub call : ℕ → List Class → Event
 call m vs = record { id = call-id m; values = vs }
@@ -105,12 +105,9 @@ gpr = call 1 [] ∷ call 2 [] ∷ call 3 [] ∷ []
 abbrev pub gprz : List Event
 gprz = gpr ++ (call 4 [] ∷ [])
 
--- a label's class: its bytes, with the case of letters ignored
-abbrev pub small : ℕ → ℕ
-small b = cond (leb 65 b && leb b 90) (b + 32) b
-
+-- the class of the label that is spelt so
 abbrev pub label : List ℕ → Class
-label bs = map small bs
+label text = label-class (label-of text)
 
 abbrev pub applied-labels : List Event
 applied-labels = stale-day (label (codes "HW-12")) (label (codes "day-1")) (label (codes "hw-12")) (label (codes "DAY-1"))

@@ -9,10 +9,11 @@ use Rattle.kinds.specs.declared.refusal.Layer.the-variants.{Watch, Journal}
 use Rattle.kinds.specs.declared.refusal.Reason.the-variants.{Cut, WildId, TooManyValues, Watch as of-watch}
 use Rattle.kinds.specs.declared.watch_reason.WatchReason.the-variants.{NotBegun, BegunAlready, BadCap, OtherConstants, SmallBoard, OtherArity, IsBroken, IsSpilled, IsFull, IsKept, NotBroken, SmallPage}
 use Rattle.kinds.specs.declared.refusal.Refusal.{Refusal}
+use Rattle.kinds.specs.declared.refusal.Ending.the-variants.{End, Refused}
 use Rattle.topl.specs.Lists.{Class, nothing}
 use Rattle.topl.specs.Table.{Event, Any, Write, Same, Differs, call-label, return-label, whole-label, any-label, statement, Table, empty-table, start, error}
 use Rattle.topl.specs.Runs.{so-far, closing, Error-at}
-use Rattle.topl.specs.Ledger.{Ledger, fresh, began, turned, broken-at, Answer, begun, no-event, no-source, says, verdict-is, wrote, unwritten, refused, at-end, refusing, Source, registers-of}
+use Rattle.topl.specs.Ledger.{Ledger, fresh, began, turned, broken-at, Answer, begun, no-event, no-source, says, verdict-is, wrote, unwritten, refused, Source, registers-of}
 use Rattle.topl.specs.History.{Call, to-begin, to-feed, to-draw, to-close, ask-verdict, ask-path, Moment, made, Log, History, In-language}
 use Rattle.topl.specs.Days.{Only, number, call, return, still-running, found-broken, watch-refusal, refused-for, all-fed, board, begun-over, alone, Day, stale, stale-day, applied, wait, gpr, gprz, first-path}
 
@@ -50,13 +51,13 @@ abbrev pub midnight : Event
 midnight = call 5 []
 
 abbrev pub odd-source : Source
-odd-source = record { waiting = call 3 [] ∷ midnight ∷ []; ending = at-end }
+odd-source = record { waiting = call 3 [] ∷ midnight ∷ []; ending = End }
 
 abbrev pub cut : Refusal
 cut = record { layer = Journal; reason = Cut; place = 7 }
 
 abbrev pub cut-source : Source
-cut-source = record { waiting = midnight ∷ []; ending = refusing cut }
+cut-source = record { waiting = midnight ∷ []; ending = Refused cut }
 
 abbrev pub with-sources : Ledger → List Source → Moment
 with-sources l W = record { ledger = l; sources = W }
@@ -82,14 +83,14 @@ pub record Examples : Type 0 where
   -- 30 by a draw: the event is gone, the ledger is as it was; then the next one, and the end
   pub draw-of-other-arity : Only (made board 16384 (odd-source ∷ []))
       ((to-begin stale [] 64, begun) ∷ (to-draw 0, refused-for OtherArity 0) ∷ (to-draw 0, still-running) ∷ (to-draw 0, no-event) ∷ (to-draw 0, no-event) ∷ (to-draw 1, no-source) ∷ [])
-      (with-sources (turned (begun-over 16384 stale [] 64) Running (so-far (midnight ∷ []))) (record { waiting = []; ending = at-end } ∷ []))
+      (with-sources (turned (begun-over 16384 stale [] 64) Running (so-far (midnight ∷ []))) (record { waiting = []; ending = End } ∷ []))
   pub refused-draw-takes-one : Only (made board 16384 (odd-source ∷ []))
       ((to-begin stale [] 64, begun) ∷ (to-draw 0, refused-for OtherArity 0) ∷ [])
-      (with-sources (begun-over 16384 stale [] 64) (record { waiting = midnight ∷ []; ending = at-end } ∷ []))
+      (with-sources (begun-over 16384 stale [] 64) (record { waiting = midnight ∷ []; ending = End } ∷ []))
   -- a source's refusal is passed on, at each draw
   pub ending-is-passed-on : Only (made board 16384 (cut-source ∷ []))
       ((to-begin stale [] 64, begun) ∷ (to-draw 0, still-running) ∷ (to-draw 0, refused cut) ∷ (to-draw 0, refused cut) ∷ [])
-      (with-sources (turned (begun-over 16384 stale [] 64) Running (so-far (midnight ∷ []))) (record { waiting = []; ending = refusing cut } ∷ []))
+      (with-sources (turned (begun-over 16384 stale [] 64) Running (so-far (midnight ∷ []))) (record { waiting = []; ending = Refused cut } ∷ []))
   -- 20: not begun; a draw that the phase refuses leaves its source
   pub not-begun : Only (made board 16384 (cut-source ∷ []))
       ((to-feed midnight, refused-for NotBegun 0) ∷ (to-draw 0, refused-for NotBegun 0) ∷ (to-close, refused-for NotBegun 0) ∷ (ask-verdict, verdict-is Blank 0 None) ∷ [])

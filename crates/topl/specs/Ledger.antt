@@ -15,6 +15,8 @@ use Rattle.kinds.specs.declared.refusal.Reason.the-variants.{WildId, TooManyVal
 use Rattle.kinds.specs.declared.watch_reason.WatchReason.{WatchReason}
 use Rattle.kinds.specs.declared.watch_reason.WatchReason.the-variants.{NotBegun, BegunAlready, BadCap, OtherConstants, SmallBoard, OtherArity, IsBroken, IsSpilled, IsFull, IsKept, NotBroken, SmallPage}
 use Rattle.kinds.specs.declared.refusal.Refusal.{Refusal}
+use Rattle.kinds.specs.declared.refusal.Ending.{Ending}
+use Rattle.kinds.specs.declared.refusal.Ending.the-variants.{End, Refused}
 use Rattle.topl.specs.Lists.{Class, nothing}
 use Rattle.topl.specs.Table.{Event, calls, most-values, Table, empty-table, register-count, error}
 use Rattle.topl.specs.Runs.{Registers, Configuration, Mode, settled, closed, World, so-far, closing, Reach}
@@ -185,20 +187,15 @@ Feeds l e r = unless l (feed-reason l e) (Settles l (with-event l e) Running (ru
 abbrev pub Closes : Ledger → Ledger × Answer → Type 0
 Closes l r = unless l (phase-reason (l .phase)) (Settles l (closing (l .judged)) Kept (rule l (closing (l .judged)))) r
 
--- how a source ends: at its end, or by one refusal
-pub data Ending : Type 0 where
-  at-end : Ending
-  refusing : Refusal → Ending
-
--- a source: the events that wait, and how it ends
+-- a source: the events that wait, and how it ends: at its end, or by one refusal
 pub record Source : Type 0 where
   pub waiting : List Event
   pub ending : Ending
 
 -- what a draw from a source with no event answers
 abbrev pub passed-on : Ending → Answer
-passed-on at-end = no-event
-passed-on (refusing r) = refused r
+passed-on End = no-event
+passed-on (Refused r) = refused r
 
 -- a draw that the phase allows feeds the first event that waits, which is gone from the source even if it is refused
 abbrev pub Takes : Ledger → List Event → Ending → Ledger × Answer → Source → Type 0

@@ -1,0 +1,4 @@
+pub mod Groups
+pub mod Meaning
+pub mod Texts
+pub mod Trims
