@@ -16,7 +16,7 @@ use Rattle.topl.specs.Lists.{Class}
 use Rattle.topl.specs.Table.{Event, Table}
 use Rattle.topl.specs.Runs.{World, closing, so-far}
 use Rattle.topl.specs.Deciding.{Ruling, breaks, goes-on, overfills, spills}
-use Rattle.topl.specs.Ledger.{Answer, Begins, Closes, Feeds, Ledger, Settles, Source, Takes, began, begin-reason, begun, broken-at, draws-by, feed-reason, no-source, passed-on, path-on, phase-reason, refuse, registers-of, rule, says, turned, unless, verdict, with-event, world}
+use Rattle.topl.specs.Ledger.{Answer, Begins, Closes, Feeds, Ledger, Settles, Source, Takes, began, begin-reason, begun, broken-at, draws-by, feed-reason, no-source, passed-on, path-on, phase-reason, refuse, registers-of, rule, says, turned, unless, verdict, with-event, world-of}
 use Rattle.topl.specs.History.{Answered, Call, Does, History, Log, Moment, ask-path, ask-verdict, calls-of, draws-at, to-begin, to-close, to-draw, to-feed}
 use Rattle.topl.proofs.Deciding.{deciding}
 
@@ -27,8 +27,8 @@ module _ (l : Ledger) where
   settles w idle (breaks p) e =
       let f = deciding (l .table) (registers-of l) (l .cap) (min (l .book) 16384) (so-far (l .judged)) w .when-broken p .0 e .1 in
       ((broken-at l w p (f .2 .0), says Broken (Some p)), (f .2 .0, (f .0, f .1, f .2 .1), refl))
-  settles w idle spills e = ((turned l Spilled (world l), refuse l (of-watch IsSpilled)), refl)
-  settles w idle overfills e = ((turned l Full (world l), refuse l (of-watch IsFull)), refl)
+  settles w idle spills e = ((turned l Spilled (world-of l), refuse l (of-watch IsSpilled)), refl)
+  settles w idle overfills e = ((turned l Full (world-of l), refuse l (of-watch IsFull)), refl)
   settles w idle goes-on e = ((turned l idle w, says idle None), refl)
 
   unless-answered : (does : Ledger × Answer → Type 0) (o : Option Reason) → (r : Ledger × Answer) × does r → (r : Ledger × Answer) × unless l o does r

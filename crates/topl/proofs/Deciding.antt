@@ -13,8 +13,8 @@ use Rattle.std.proofs.shelf.Tests.{or-cases, or-left, or-right, cases-lt}
 use Rattle.topl.specs.Lists.{_∈_}
 use Rattle.topl.specs.Table.{Table, error}
 use Rattle.topl.specs.Runs.{Configuration, Error-at, Registers, World, reached}
-use Rattle.topl.specs.Deciding.{Ruling, any-error, breaks, count, decides, first-ruling, goes-on, need, or-else, overfills, ruling, spills}
-use Rattle.topl.specs.Theorems.{Decides, Finding, Lowest, Rules, Undecided}
+use Rattle.topl.specs.Deciding.{Ruling, any-error, breaks, count, decides, first-ruling, goes-on, need, or-else, overfills, ruling-at, spills}
+use Rattle.topl.specs.Theorems.{Rule-in-words, Finding, Lowest, Rules, Undecided}
 use Rattle.topl.proofs.Enumerate.{enumerates}
 
 abbrev tag : Ruling → ℕ
@@ -163,18 +163,18 @@ module _ (P : Table) (k : Registers) (cap book : ℕ) (before now : World) where
       go true e = absurd (h (fails-so p e))
       go false e = e
 
-  pub undecided : (p : ℕ) → ruling P k cap book before now p ≡ goes-on → Undecided P k cap book before now p
-  unfolding ruling
+  pub undecided : (p : ℕ) → ruling-at P k cap book before now p ≡ goes-on → Undecided P k cap book before now p
+  unfolding ruling-at
   undecided p e =
       let h = is-goes-on (errs p) (over p) (beyond p) p e in
       (not-fails p (h .0), ltb-false cap (count P k now p) (h .1), ltb-false book (need P k before now p) (h .2))
 
-  pub no-ruling : (p : ℕ) → Undecided P k cap book before now p → ruling P k cap book before now p ≡ goes-on
-  unfolding ruling
+  pub no-ruling : (p : ℕ) → Undecided P k cap book before now p → ruling-at P k cap book before now p ≡ goes-on
+  unfolding ruling-at
   no-ruling p (h₀, h₁, h₂) = rw (no-error p h₀, le-ltb cap (count P k now p) h₁, le-ltb book (need P k before now p) h₂)
 
   abbrev f : ℕ → Ruling
-  f = ruling P k cap book before now
+  f = ruling-at P k cap book before now
 
   lowest : (r : Ruling) → ¬ (r ≡ goes-on) → decides P k cap book before now ≡ r → (p : ℕ) × Lowest P k cap book before now p × (f p ≡ r)
   unfolding decides At
@@ -199,7 +199,7 @@ module _ (P : Table) (k : Registers) (cap book : ℕ) (before now : World) where
   all g = first-all f (suc (length (now .events))) 0 (λ q l₁ l₂. no-ruling q (g q (omega arith)))
 
   rules : Rules P k cap book before now
-  unfolding ruling
+  unfolding ruling-at
   rules = record {
     when-broken = λ p. (broken-so p, λ x. decided (breaks p) (is (breaks p) 1 refl (omega arith)) p (x .0) (rw (so-fails p (x .1)) refl));
     when-spilled = (
@@ -229,5 +229,5 @@ finding P k cap book before now = record {
   never = λ g. all P k cap book before now (λ p l. undecided P k cap book before now p (g p l));
 }
 
-pub deciding : Decides
+pub deciding : Rule-in-words
 deciding P k cap book before now = rules P k cap book before now

@@ -17,7 +17,7 @@ use Rattle.topl.specs.Lists.{Class}
 use Rattle.topl.specs.Table.{Event, Table}
 use Rattle.topl.specs.Runs.{World, closing}
 use Rattle.topl.specs.Deciding.{Ruling, breaks, goes-on, overfills, spills}
-use Rattle.topl.specs.Ledger.{Answer, Begins, Closes, Feeds, Ledger, Settles, Source, Takes, began, begin-reason, begun, broken-at, draws-by, feed-reason, passed-on, phase-reason, refuse, rule, says, turned, unless, verdict, with-event, world}
+use Rattle.topl.specs.Ledger.{Answer, Begins, Closes, Feeds, Ledger, Settles, Source, Takes, began, begin-reason, begun, broken-at, draws-by, feed-reason, passed-on, phase-reason, refuse, rule, says, turned, unless, verdict, with-event, world-of}
 use Rattle.topl.specs.History.{Call, Determined, Does, Moment, Same-but-shown, ask-path, ask-verdict, bare, but-paths, calls-of, draws-at, to-begin, to-close, to-draw, to-feed}
 
 -- a result without the shown run
@@ -27,8 +27,8 @@ core r = (bare (r .0), r .1)
 -- what a ruling gives, but for the shown run
 abbrev settled-core : Ledger → World → Phase → Ruling → Ledger × Answer
 settled-core l w idle (breaks p) = (broken-at l w p [], says Broken (Some p))
-settled-core l w idle spills = (turned l Spilled (world l), refuse l (of-watch IsSpilled))
-settled-core l w idle overfills = (turned l Full (world l), refuse l (of-watch IsFull))
+settled-core l w idle spills = (turned l Spilled (world-of l), refuse l (of-watch IsSpilled))
+settled-core l w idle overfills = (turned l Full (world-of l), refuse l (of-watch IsFull))
 settled-core l w idle goes-on = (turned l idle w, says idle None)
 
 settles-core : (l : Ledger) (w : World) (idle : Phase) (x : Ruling) (r : Ledger × Answer) → Settles l w idle x r → core r ≡ settled-core (bare l) w idle x

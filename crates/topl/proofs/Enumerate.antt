@@ -11,7 +11,7 @@ use borrow.Author.Tests.{eqb-true, eq-eqb}
 use Rattle.std.proofs.shelf.Tests.{and-parts, and-from, cond-true, cases-lt}
 use Rattle.topl.specs.Lists.{Distinct, _∈_, each, once}
 use Rattle.topl.specs.Table.{Event, Statement, Table, at, numbered, span}
-use Rattle.topl.specs.Runs.{Configuration, Landing, Lets-skip, Mode, Move, Outcome, Reach, Reaches, Registers, Run, World, alikeᶜ, arrivals, at-start, calm, closed, fails, hangs, has-come, landing-of, layers, moves, onto, onward, outcome, pass, passes, passing, quiet, reached, runs, settled, skip}
+use Rattle.topl.specs.Runs.{Configuration, Landing, Lets-skip, Mode, Move, Outcome, Reach, Reaches, Registers, Run, World, alikeᶜ, arrivals, at-start, calm, closed, fails, hangs, has-come, landing-of, layers, moves, onto, onward, outcome-of, pass, passes, passing, quiet, reached, runs, settled, skip}
 use Rattle.topl.specs.Theorems.{Enumerates}
 use Rattle.topl.proofs.Basics.{∈-each, each-∈, alikeᶜ-tests, once-∈, ∈-once, once-distinct}
 use Rattle.topl.proofs.Persist.{passes≢fails, passes≢hangs, fails≢hangs, move-bounds, reach-bound}
@@ -48,39 +48,39 @@ calm-complete closed hangs e = refl
 
 module _ (w : World) (p : ℕ) (c : Configuration) where
   Passed : List (ℕ × Statement) → Landing → Type 0
-  Passed ts m = (t : ℕ × Statement) × (t ∈ ts) × (t .1 .source ≡ c .state) × (s : Registers) × (outcome w p c t ≡ passes s) × (m ≡ lands-at p t s)
+  Passed ts m = (t : ℕ × Statement) × (t ∈ ts) × (t .1 .source ≡ c .state) × (s : Registers) × (outcome-of w p c t ≡ passes s) × (m ≡ lands-at p t s)
 
   passing-sound : {m : Landing} (ts : List (ℕ × Statement)) → m ∈ passing w p c ts → Passed ts m
   unfolding Passed
   passing-sound [] h = absurd (List·Memᴰ·not-nil h)
-  passing-sound {m} (t ∷ ts) h = go (passing-sound ts) (eqb (t .1 .source) (c .state)) refl (List·Memᴰ·append-cases (cond (eqb (t .1 .source) (c .state)) (landing-of p t (outcome w p c t)) []) h)
+  passing-sound {m} (t ∷ ts) h = go (passing-sound ts) (eqb (t .1 .source) (c .state)) refl (List·Memᴰ·append-cases (cond (eqb (t .1 .source) (c .state)) (landing-of p t (outcome-of w p c t)) []) h)
     where
-      go : (m ∈ passing w p c ts → Passed ts m) → (b : Bool) → eqb (t .1 .source) (c .state) ≡ b → (m ∈ cond b (landing-of p t (outcome w p c t)) []) ⊎ (m ∈ passing w p c ts) → Passed (t ∷ ts) m
-      go below true e (inl h′) = let r = landing-sound p t (outcome w p c t) h′ in (t, List·Memᴰ·head refl, eqb-true (t .1 .source) (c .state) e, r .0, r .1, r .2)
+      go : (m ∈ passing w p c ts → Passed ts m) → (b : Bool) → eqb (t .1 .source) (c .state) ≡ b → (m ∈ cond b (landing-of p t (outcome-of w p c t)) []) ⊎ (m ∈ passing w p c ts) → Passed (t ∷ ts) m
+      go below true e (inl h′) = let r = landing-sound p t (outcome-of w p c t) h′ in (t, List·Memᴰ·head refl, eqb-true (t .1 .source) (c .state) e, r .0, r .1, r .2)
       go below false e (inl h′) = absurd (List·Memᴰ·not-nil h′)
       go below b e (inr h′) = let r = below h′ in (r .0, List·Memᴰ·tail (r .1), r .2, r .3, r .4, r .5)
 
-  passing-complete : {t : ℕ × Statement} {ts : List (ℕ × Statement)} (s : Registers) → t ∈ ts → t .1 .source ≡ c .state → outcome w p c t ≡ passes s → lands-at p t s ∈ passing w p c ts
+  passing-complete : {t : ℕ × Statement} {ts : List (ℕ × Statement)} (s : Registers) → t ∈ ts → t .1 .source ≡ c .state → outcome-of w p c t ≡ passes s → lands-at p t s ∈ passing w p c ts
   passing-complete {t} s (List·Memᴰ·head {x = u} {xs = ts} e) q o =
       Memᴰ·append-left (passing w p c ts)
-      (subst (λ (u : ℕ × Statement). lands-at p t s ∈ cond (eqb (u .1 .source) (c .state)) (landing-of p u (outcome w p c u)) []) e
-      (rw (eq-eqb (t .1 .source) (c .state) q) (landing-complete p t (outcome w p c t) s o)))
-  passing-complete s (List·Memᴰ·tail {x = u} m) q o = Memᴰ·append-right (cond (eqb (u .1 .source) (c .state)) (landing-of p u (outcome w p c u)) []) (passing-complete s m q o)
+      (subst (λ (u : ℕ × Statement). lands-at p t s ∈ cond (eqb (u .1 .source) (c .state)) (landing-of p u (outcome-of w p c u)) []) e
+      (rw (eq-eqb (t .1 .source) (c .state) q) (landing-complete p t (outcome-of w p c t) s o)))
+  passing-complete s (List·Memᴰ·tail {x = u} m) q o = Memᴰ·append-right (cond (eqb (u .1 .source) (c .state)) (landing-of p u (outcome-of w p c u)) []) (passing-complete s m q o)
 
-  pub quiet-sound : {t : ℕ × Statement} {ts : List (ℕ × Statement)} → quiet w p c ts ≡ true → t ∈ ts → t .1 .source ≡ c .state → Lets-skip (w .mode) (outcome w p c t)
+  pub quiet-sound : {t : ℕ × Statement} {ts : List (ℕ × Statement)} → quiet w p c ts ≡ true → t ∈ ts → t .1 .source ≡ c .state → Lets-skip (w .mode) (outcome-of w p c t)
   quiet-sound {t} e (List·Memᴰ·head {x = u} {xs = ts} i) q =
-      let h = and-parts (cond (eqb (u .1 .source) (c .state)) (calm (w .mode) (outcome w p c u)) true) (quiet w p c ts) e .0 in
-      subst (λ (u : ℕ × Statement). u .1 .source ≡ c .state → Lets-skip (w .mode) (outcome w p c u)) (sym i)
-      (λ q′. calm-sound (w .mode) (outcome w p c u) (rw (eq-eqb (u .1 .source) (c .state) q′) at h)) q
-  quiet-sound e (List·Memᴰ·tail {x = u} {xs = ts} m) q = quiet-sound (and-parts (cond (eqb (u .1 .source) (c .state)) (calm (w .mode) (outcome w p c u)) true) (quiet w p c ts) e .1) m q
+      let h = and-parts (cond (eqb (u .1 .source) (c .state)) (calm (w .mode) (outcome-of w p c u)) true) (quiet w p c ts) e .0 in
+      subst (λ (u : ℕ × Statement). u .1 .source ≡ c .state → Lets-skip (w .mode) (outcome-of w p c u)) (sym i)
+      (λ q′. calm-sound (w .mode) (outcome-of w p c u) (rw (eq-eqb (u .1 .source) (c .state) q′) at h)) q
+  quiet-sound e (List·Memᴰ·tail {x = u} {xs = ts} m) q = quiet-sound (and-parts (cond (eqb (u .1 .source) (c .state)) (calm (w .mode) (outcome-of w p c u)) true) (quiet w p c ts) e .1) m q
 
-  pub quiet-complete : (ts : List (ℕ × Statement)) → ((t : ℕ × Statement) → t ∈ ts → t .1 .source ≡ c .state → Lets-skip (w .mode) (outcome w p c t)) → quiet w p c ts ≡ true
+  pub quiet-complete : (ts : List (ℕ × Statement)) → ((t : ℕ × Statement) → t ∈ ts → t .1 .source ≡ c .state → Lets-skip (w .mode) (outcome-of w p c t)) → quiet w p c ts ≡ true
   quiet-complete [] f = refl
   quiet-complete (t ∷ ts) f =
-      and-from (cond (eqb (t .1 .source) (c .state)) (calm (w .mode) (outcome w p c t)) true) (quiet w p c ts) (go (eqb (t .1 .source) (c .state)) refl) (quiet-complete ts (λ u m. f u (List·Memᴰ·tail m)))
+      and-from (cond (eqb (t .1 .source) (c .state)) (calm (w .mode) (outcome-of w p c t)) true) (quiet w p c ts) (go (eqb (t .1 .source) (c .state)) refl) (quiet-complete ts (λ u m. f u (List·Memᴰ·tail m)))
     where
-      go : (b : Bool) → eqb (t .1 .source) (c .state) ≡ b → cond b (calm (w .mode) (outcome w p c t)) true ≡ true
-      go true e = calm-complete (w .mode) (outcome w p c t) (f t (List·Memᴰ·head refl) (eqb-true (t .1 .source) (c .state) e))
+      go : (b : Bool) → eqb (t .1 .source) (c .state) ≡ b → cond b (calm (w .mode) (outcome-of w p c t)) true ≡ true
+      go true e = calm-complete (w .mode) (outcome-of w p c t) (f t (List·Memᴰ·head refl) (eqb-true (t .1 .source) (c .state) e))
       go false e = refl
 
   pub has-come-sound : (es : List Event) → has-come es ≡ true → 0 < length es

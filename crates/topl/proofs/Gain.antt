@@ -8,7 +8,7 @@ use lib.ListN.{length, drop, length-drop, length-append}
 use lib.Seq.{drop-append-le}
 use Rattle.std.proofs.shelf.Tests.{cases-lt}
 use Rattle.topl.specs.Table.{Event, Statement, Table, matchers, span}
-use Rattle.topl.specs.Runs.{Configuration, Leaves, Move, Outcome, Reach, Reaches, Registers, World, at-start, closing, fails, hangs, onward, outcome, pass, passes, skip, so-far}
+use Rattle.topl.specs.Runs.{Configuration, Leaves, Move, Outcome, Reach, Reaches, Registers, World, at-start, closing, fails, hangs, onward, outcome-of, pass, passes, skip, so-far}
 use Rattle.topl.specs.Theorems.{Gained, Gains}
 use Rattle.topl.proofs.Lawful.{Short, lawful-short}
 use Rattle.topl.proofs.Persist.{fares-more, fares-enough, passes≢fails, move-bounds, reach-bound, Keeps, keeps-reach, keeps-longer, keeps-closing}
@@ -36,16 +36,16 @@ neither hangs h f = absurd (h refl)
 
 module _ (P : Table) (N : Short P) (L : List Event) where
   -- at p every statement leaving c finds all its events, and does not hang
-  decided : (p : ℕ) (c : Configuration) (t : ℕ × Statement) → p + 4 ≤ length L → Leaves P c t → ¬ (outcome (so-far L) p c t ≡ hangs)
+  decided : (p : ℕ) (c : Configuration) (t : ℕ × Statement) → p + 4 ≤ length L → Leaves P c t → ¬ (outcome-of (so-far L) p c t ≡ hangs)
   decided p c t h l =
       let a : span (t .1) ≤ 4 = N t (l .0) in
       let b : length (drop p L) ≡ length L - p = length-drop p L in
       fares-enough (matchers (t .1)) (c .registers) (drop p L) (omega arith)
 
-  same-longer : (X : List Event) (p : ℕ) (c : Configuration) (t : ℕ × Statement) → p + 4 ≤ length L → Leaves P c t → outcome (so-far (L ++ X)) p c t ≡ outcome (so-far L) p c t
+  same-longer : (X : List Event) (p : ℕ) (c : Configuration) (t : ℕ × Statement) → p + 4 ≤ length L → Leaves P c t → outcome-of (so-far (L ++ X)) p c t ≡ outcome-of (so-far L) p c t
   same-longer X p c t h l =
       let le : p ≤ length L = omega arith in
-      rw (drop-append-le p L X le) (fares-more (matchers (t .1)) (c .registers) (drop p L) X (outcome (so-far L) p c t) (decided p c t h l) refl)
+      rw (drop-append-le p L X le) (fares-more (matchers (t .1)) (c .registers) (drop p L) X (outcome-of (so-far L) p c t) (decided p c t h l) refl)
 
   back-longer : (X : List Event) {p q n : ℕ} {c d : Configuration} → p + 4 ≤ length L → Move P (so-far (L ++ X)) p c n q d → Move P (so-far L) p c n q d
   back-longer X {p} {c = c} h (pass t s l e) = pass t s l (sym (same-longer X p c t h l) ∙ e)
@@ -53,7 +53,7 @@ module _ (P : Table) (N : Short P) (L : List Event) where
 
   back-closing : {p q n : ℕ} {c d : Configuration} → p + 4 ≤ length L → Move P (closing L) p c n q d → Move P (so-far L) p c n q d
   back-closing h (pass t s l e) = pass t s l e
-  back-closing {p} {c = c} h (skip l f) = skip l (λ t v. neither (outcome (so-far L) p c t) (decided p c t h v) (f t v))
+  back-closing {p} {c = c} h (skip l f) = skip l (λ t v. neither (outcome-of (so-far L) p c t) (decided p c t h v) (f t v))
 
 both-ways : {P : Table} {k : Registers} {w w′ : World} (p : ℕ) (c : Configuration) → Keeps P w w′ → Backs P w w′ →
     Reaches P k w′ p c ↔ (Reaches P k w p c ⊎ Gained P k (length (w .events)) w′ p c)

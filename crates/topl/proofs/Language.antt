@@ -11,8 +11,8 @@ use Rattle.std.proofs.shelf.Tests.{cases-lt}
 use Rattle.topl.specs.Lists.{_∈_, each}
 use Rattle.topl.specs.Automata.{Accepts, Automaton, Guarded, High-conf, High-language, High-path, Skip-transition, Standard-transition, Tuple, by-skip, by-standard, initial-conf, no-step, straight}
 use Rattle.topl.specs.Table.{Event, Statement, Table, error, matchers, numbered, span}
-use Rattle.topl.specs.Translation.{automaton, ids, letter, loaded, mentions, transition, translated}
-use Rattle.topl.specs.Runs.{Configuration, Error-at, Leaves, Reach, Reaches, Registers, at-start, closing, first-configuration, onward, outcome, pass, passes, skip}
+use Rattle.topl.specs.Translation.{automaton-of, ids, letter, loaded, mentions, transition, translated}
+use Rattle.topl.specs.Runs.{Configuration, Error-at, Leaves, Reach, Reaches, Registers, at-start, closing, first-configuration, onward, outcome-of, pass, passes, skip}
 use Rattle.topl.specs.Theorems.{Recognizes}
 use Rattle.topl.proofs.Basics.{∈-each}
 use Rattle.topl.proofs.Persist.{reach-bound}
@@ -32,7 +32,7 @@ labels {u = u} (by-skip {w = w} {v = v} st h) = st .1 ∙ ap (λ (r : List Tuple
 
 module _ (P : Table) (k : Registers) (L : List Event) where
   A : Automaton (List Guarded)
-  A = automaton P k
+  A = automaton-of P k
 
   -- the configuration c at position p, as the automaton has it
   shown : ℕ → Configuration → High-conf
@@ -47,7 +47,7 @@ module _ (P : Table) (k : Registers) (L : List Event) where
       ap (λ (r : List Event). map letter (take n (drop p L)) ++ map letter r) (drop-drop n p L)
 
   -- a passing statement is a by-standard transition
-  to-standard : (p : ℕ) (c : Configuration) (t : ℕ × Statement) (s : Registers) → Leaves P c t → outcome (closing L) p c t ≡ passes s →
+  to-standard : (p : ℕ) (c : Configuration) (t : ℕ × Statement) (s : Registers) → Leaves P c t → outcome-of (closing L) p c t ≡ passes s →
       Standard-transition A (shown p c) (map letter (take (span (t .1)) (drop p L))) (shown (p + span (t .1)) (record { state = t .1 .target; registers = s }))
   unfolding A shown
   to-standard p c t s l e = (
@@ -61,7 +61,7 @@ module _ (P : Table) (k : Registers) (L : List Event) where
   )
 
   Passed : ℕ → Configuration → High-conf → Type 0
-  Passed p c z = (t : ℕ × Statement) × (s : Registers) × Leaves P c t × (outcome (closing L) p c t ≡ passes s) × (z ≡ shown (p + span (t .1)) (record { state = t .1 .target; registers = s }))
+  Passed p c z = (t : ℕ × Statement) × (s : Registers) × Leaves P c t × (outcome-of (closing L) p c t ≡ passes s) × (z ≡ shown (p + span (t .1)) (record { state = t .1 .target; registers = s }))
 
   -- a by-standard transition is a passing statement
   of-standard : (p : ℕ) (c : Configuration) (w : List Tuple) (z : High-conf) → Standard-transition A (shown p c) w z → Passed p c z
@@ -89,7 +89,7 @@ module _ (P : Table) (k : Registers) (L : List Event) where
   some : (p : ℕ) (ℓ : Tuple) (w : List Tuple) → map letter (drop p L) ≡ ℓ ∷ w → p < length L
   some p ℓ w e = ⊎-elim (λ (h : p < length L). h) (λ (h : length L ≤ p). absurd (cons≢nil (sym e ∙ ap (map letter) (drop-of-length-le L h)))) (cases-lt p (length L))
 
-  to-skip : (p : ℕ) (c : Configuration) → p < length L → ((t : ℕ × Statement) → Leaves P c t → (s : Registers) → ¬ (outcome (closing L) p c t ≡ passes s)) →
+  to-skip : (p : ℕ) (c : Configuration) → p < length L → ((t : ℕ × Statement) → Leaves P c t → (s : Registers) → ¬ (outcome-of (closing L) p c t ≡ passes s)) →
       (ℓ : Tuple) × Skip-transition A (shown p c) (ℓ ∷ []) (shown (suc p) c)
   unfolding A shown Passed
   to-skip p c h f =

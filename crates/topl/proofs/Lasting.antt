@@ -23,7 +23,7 @@ use Rattle.topl.specs.Runs.{Configuration, Reaches, Registers, closing, first-
 use Rattle.topl.specs.Deciding.{Ruling, breaks, count, goes-on, overfills, spills}
 use Rattle.topl.specs.Ledger.{Answer, Begins, Closes, Feeds, Ledger, Settles, Source, Takes, began, begin-reason, draws-by, initial, is-blank, passed-on, phase-reason, refuse, registers-of, rule, with-event}
 use Rattle.topl.specs.Theorems.{Steady}
-use Rattle.topl.specs.History.{Lasting, Sound}
+use Rattle.topl.specs.History.{Stays-sound, Sound}
 use Rattle.topl.proofs.Persist.{persists, reach-bound}
 use Rattle.topl.proofs.Enumerate.{enumerates}
 use Rattle.topl.proofs.Deciding.{deciding}
@@ -108,7 +108,7 @@ begin-keeps : (l : Ledger) (P : Table) (ks : List Class) (cap : ℕ) (r : Ledger
 begin-keeps l P ks cap r S f =
     ⊎-elim (λ x. same-sound l (refuse l (x .0)) r S (x .2)) (λ x. subst After (sym (x .1)) (began-sound l P ks cap (x .0))) (begun-parts l P ks cap r f)
 
-pub lasting : Lasting
+pub lasting : Stays-sound
 lasting = record {
   fresh-sound = λ board book. (refl, refl, refl);
   begin-sound = λ l P ks cap r S F. begin-keeps l P ks cap r S F;

@@ -21,3 +21,5 @@ pub mod Determined
 pub mod Sole
 pub mod Days
 pub mod Examples
+pub mod Placed
+pub mod Settled

@@ -13,11 +13,11 @@ use Rattle.topl.proofs.Enumerate.{quiet-sound, quiet-complete, has-come-sound,
 use Rattle.std.proofs.shelf.Tests.{and-parts, and-from}
 use Rattle.topl.specs.Lists.{_∈_}
 use Rattle.topl.specs.Table.{Statement, Table, count-from, implied, numbered}
-use Rattle.topl.specs.Runs.{Configuration, Leaves, Move, Outcome, Reach, Registers, World, at-start, fails, first-configuration, hangs, has-come, onward, outcome, pass, passes, quiet, skip}
+use Rattle.topl.specs.Runs.{Configuration, Leaves, Move, Outcome, Reach, Registers, World, at-start, fails, first-configuration, hangs, has-come, onward, outcome-of, pass, passes, quiet, skip}
 use Rattle.topl.specs.Rows.{by-statement, by-step, lead, look, replay, then}
 use Rattle.topl.specs.Theorems.{Replays}
 
-some-same : {X : Type 0} {x y : X} {o : Option X} → o ≡ some x → o ≡ some y → x ≡ y
+pub some-same : {X : Type 0} {x y : X} {o : Option X} → o ≡ some x → o ≡ some y → x ≡ y
 some-same p q = cc
 
 look-sound : (n : ℕ) (ts : List (ℕ × Statement)) (t : ℕ × Statement) → look n ts ≡ some t → (t ∈ ts) × (t .0 ≡ n)
@@ -28,7 +28,7 @@ look-sound n (u ∷ ts) t e = go (look-sound n ts t) (eqb (u .0) n) refl e
     go below true i h = let k : t ≡ u = some-same h refl in (List·Memᴰ·head k, (λ j. k j .0) ∙ eqb-true (u .0) n i)
     go below false i h = let x = below h in (List·Memᴰ·tail (x .0), x .1)
 
-numbers : (n : ℕ) (ts : List Statement) (t : ℕ × Statement) → n + length ts ≤ 65 → t ∈ count-from n ts → n ≤ t .0
+pub numbers : (n : ℕ) (ts : List Statement) (t : ℕ × Statement) → n + length ts ≤ 65 → t ∈ count-from n ts → n ≤ t .0
 numbers n [] t l m = let e : t ≡ (65, implied) = List·Memᴰ·eq-of-singleton m in let k : t .0 ≡ 65 = (λ j. e j .0) in omega arith
 numbers n (u ∷ ts) t l m = go (numbers (suc n) ts t (omega arith)) (List·Memᴰ·cases-cons m)
   where
@@ -56,11 +56,11 @@ replay-more P w (m ∷ ns) n x = go (by-step P w m x) (replay-more P w ns n)
     go none h = refl
     go (some y) h = h y
 
-none≢some : {X : Type 0} {x : X} {o : Option X} → o ≡ none → o ≡ some x → ⊥
+pub none≢some : {X : Type 0} {x : X} {o : Option X} → o ≡ none → o ≡ some x → ⊥
 none≢some p q = let z : _≡_ {A = ℕ} 0 1 = cc in omega arith
 
 module _ (P : Table) (k : Registers) (w : World) where
-  step-complete : {p q n : ℕ} {c d : Configuration} → length (P .statements) ≤ 64 → Move P w p c n q d → by-step P w n (p, c) ≡ some (q, d)
+  pub step-complete : {p q n : ℕ} {c d : Configuration} → length (P .statements) ≤ 64 → Move P w p c n q d → by-step P w n (p, c) ≡ some (q, d)
   step-complete {p} {c = c} few (pass t s l e) =
       let b : 1 ≤ t .0 = numbers 1 (P .statements) t (omega arith) (l .0) in
       let b′ : 1 + length (P .statements) ≤ 65 = omega arith in
@@ -69,7 +69,7 @@ module _ (P : Table) (k : Registers) (w : World) where
       let l′ : length (drop p (w .events)) ≡ length (w .events) - p = length-drop p (w .events) in
       rw (and-from (has-come (drop p (w .events))) (quiet w p c (numbered P)) (has-come-complete w p c (drop p (w .events)) (omega arith)) (quiet-complete w p c (numbered P) (λ t m e. f t (m, e))))
 
-  step-sound : (n p : ℕ) (c : Configuration) (y : ℕ × Configuration) → by-step P w n (p, c) ≡ some y → Move P w p c n (y .0) (y .1)
+  pub step-sound : (n p : ℕ) (c : Configuration) (y : ℕ × Configuration) → by-step P w n (p, c) ≡ some y → Move P w p c n (y .0) (y .1)
   step-sound n p c y e = go (eqb n 0) refl e
     where
       skipped : (b : Bool) → (has-come (drop p (w .events)) && quiet w p c (numbered P)) ≡ b → cond b (some (suc p, c)) none ≡ some y → Move P w p c 0 (y .0) (y .1)
@@ -80,13 +80,13 @@ module _ (P : Table) (k : Registers) (w : World) where
           subst (λ (y : ℕ × Configuration). Move P w p c 0 (y .0) (y .1)) (some-same refl h) (skip (omega arith) (λ t v. quiet-sound w p c (b .1) (v .0) (v .1)))
       skipped false i h = absurd (none≢some refl h)
 
-      leads : (t : ℕ × Statement) (o : Outcome) → outcome w p c t ≡ o → Leaves P c t → lead p (t .1) o ≡ some y → Move P w p c (t .0) (y .0) (y .1)
+      leads : (t : ℕ × Statement) (o : Outcome) → outcome-of w p c t ≡ o → Leaves P c t → lead p (t .1) o ≡ some y → Move P w p c (t .0) (y .0) (y .1)
       leads t (passes s) i l h = subst (λ (y : ℕ × Configuration). Move P w p c (t .0) (y .0) (y .1)) (some-same refl h) (pass t s l i)
       leads t fails i l h = absurd (none≢some refl h)
       leads t hangs i l h = absurd (none≢some refl h)
 
-      leaves : (t : ℕ × Statement) (b : Bool) → eqb (t .1 .source) (c .state) ≡ b → t ∈ numbered P → cond b (lead p (t .1) (outcome w p c t)) none ≡ some y → Move P w p c (t .0) (y .0) (y .1)
-      leaves t true i m h = leads t (outcome w p c t) refl (m, eqb-true (t .1 .source) (c .state) i) h
+      leaves : (t : ℕ × Statement) (b : Bool) → eqb (t .1 .source) (c .state) ≡ b → t ∈ numbered P → cond b (lead p (t .1) (outcome-of w p c t)) none ≡ some y → Move P w p c (t .0) (y .0) (y .1)
+      leaves t true i m h = leads t (outcome-of w p c t) refl (m, eqb-true (t .1 .source) (c .state) i) h
       leaves t false i m h = absurd (none≢some refl h)
 
       found : (o : Option (ℕ × Statement)) → look n (numbered P) ≡ o → by-statement w (p, c) o ≡ some y → Move P w p c n (y .0) (y .1)

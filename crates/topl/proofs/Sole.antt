@@ -21,7 +21,7 @@ use Rattle.topl.specs.Lists.{Class, _∈_}
 use Rattle.topl.specs.Table.{Event, Table, error}
 use Rattle.topl.specs.Runs.{Configuration, Run, World, closing, runs}
 use Rattle.topl.specs.Deciding.{Ruling, breaks, goes-on, overfills, spills}
-use Rattle.topl.specs.Ledger.{Allowed, Answer, Begins, Closes, Feeds, Ledger, Settles, Source, Takes, began, begin-reason, begun, broken-at, draws-by, feed-reason, no-source, passed-on, path-on, phase-reason, refuse, registers-of, rule, says, turned, unless, verdict, with-event, world}
+use Rattle.topl.specs.Ledger.{Allowed, Answer, Begins, Closes, Feeds, Ledger, Settles, Source, Takes, began, begin-reason, begun, broken-at, draws-by, feed-reason, no-source, passed-on, path-on, phase-reason, refuse, registers-of, rule, says, turned, unless, verdict, with-event, world-of}
 use Rattle.topl.specs.History.{Call, Does, History, Log, Moment, ask-path, ask-verdict, calls-of, draws-at, to-begin, to-close, to-draw, to-feed}
 use Rattle.topl.proofs.Enumerate.{enumerates}
 
@@ -65,8 +65,8 @@ only-run l w p path e shown = (there, back)
 -- WHAT A CALL ANSWERS, with the run to show if it breaks
 abbrev ruled : Ledger → World → Phase → List ℕ → Ruling → Ledger × Answer
 ruled l w idle path (breaks p) = (broken-at l w p path, says Broken (Some p))
-ruled l w idle path spills = (turned l Spilled (world l), refuse l (of-watch IsSpilled))
-ruled l w idle path overfills = (turned l Full (world l), refuse l (of-watch IsFull))
+ruled l w idle path spills = (turned l Spilled (world-of l), refuse l (of-watch IsSpilled))
+ruled l w idle path overfills = (turned l Full (world-of l), refuse l (of-watch IsFull))
 ruled l w idle path goes-on = (turned l idle w, says idle None)
 
 abbrev or-refused : Ledger → Option Reason → Ledger × Answer → Ledger × Answer

@@ -44,12 +44,12 @@ first-ruling f (suc n) p = let later = first-ruling f n (suc p) in or-else (f p)
 
 module _ (P : Table) (k : Registers) (cap book : ℕ) (before now : World) where
   -- What one position decides, in this order: `error` is reached, more than cap configurations are, the need exceeds the book.
-  unfoldable pub ruling : ℕ → Ruling
+  unfoldable pub ruling-at : ℕ → Ruling
   unfolding need
-  ruling p =
+  ruling-at p =
       cond (any-error (reached P k now p)) (breaks p) (cond (ltb cap (count P k now p)) spills (cond (ltb book (need P k before now p)) overfills goes-on))
 
   -- The lowest position at which one of them is true decides.
   unfoldable pub decides : Ruling
-  unfolding ruling
-  decides = first-ruling ruling (suc (length (now .events))) 0
+  unfolding ruling-at
+  decides = first-ruling ruling-at (suc (length (now .events))) 0

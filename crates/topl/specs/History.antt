@@ -16,9 +16,9 @@ use Rattle.kinds.specs.declared.watch_reason.WatchReason.the-variants.{BegunAlr
 use Rattle.topl.specs.Lists.{Class, _∈_}
 use Rattle.topl.specs.Automata.{High-language}
 use Rattle.topl.specs.Table.{Event, calls, most-values, Statement, Table, numbered, error, Lawful}
-use Rattle.topl.specs.Translation.{letter, automaton}
+use Rattle.topl.specs.Translation.{letter, automaton-of}
 use Rattle.topl.specs.Runs.{Configuration, Mode, settled, closed, so-far, closing, Error-at}
-use Rattle.topl.specs.Ledger.{Ledger, fresh, registers-of, world, broken-at, Answer, begun, no-event, no-source, says, verdict-is, wrote, unwritten, refused, opening-reason, count-reason, Begins, Feeds, Closes, Source, Draws, Allowed, path-on, verdict}
+use Rattle.topl.specs.Ledger.{Ledger, fresh, registers-of, world-of, broken-at, Answer, begun, no-event, no-source, says, verdict-is, wrote, unwritten, refused, opening-reason, count-reason, Begins, Feeds, Closes, Source, Draws, Allowed, path-on, verdict}
 use Rattle.topl.specs.Theorems.{Steady}
 
 -- CALLS
@@ -183,7 +183,7 @@ pub record Turns (m : Moment) (c : Call) (a : Answer) (o : Moment) : Type 0 wher
 abbrev pub Means : Ledger → Phase → Type 0
 Means l Blank = (l .position ≡ None) × (l .judged ≡ []) × (l .mode ≡ settled)
 Means l Running = (l .position ≡ None) × Steady (l .table) (registers-of l) (l .cap) (min (l .book) 16384) (l .judged) × (l .mode ≡ settled)
-Means l Broken = (p : ℕ) × (l .position ≡ Some p) × Allowed l (world l) p (l .shown)
+Means l Broken = (p : ℕ) × (l .position ≡ Some p) × Allowed l (world-of l) p (l .shown)
 Means l Spilled = l .position ≡ None
 Means l Full = l .position ≡ None
 Means l Kept = (l .position ≡ None) × ((p : ℕ) → ¬ Error-at (l .table) (registers-of l) (closing (l .judged)) p)
@@ -192,7 +192,7 @@ abbrev pub Sound : Ledger → Type 0
 Sound l = Means l (l .phase)
 
 -- Every call keeps to it.
-pub record Lasting : Type 0 where
+pub record Stays-sound : Type 0 where
   pub fresh-sound : (board book : ℕ) → Sound (fresh board book)
   pub begin-sound : (l : Ledger) (P : Table) (ks : List Class) (cap : ℕ) (r : Ledger × Answer) → Sound l → Begins l P ks cap r → Sound (r .0)
   pub feed-sound : (l : Ledger) (e : Event) (r : Ledger × Answer) → Sound l → Feeds l e r → Sound (r .0)
@@ -202,7 +202,7 @@ pub record Lasting : Type 0 where
 -- WHAT IS TRUE AT A MOMENT, by its phase and the calls that follow
 -- a list of events is in the language of the property's automaton
 abbrev pub In-language : Ledger → List Event → Type 0
-In-language l es = High-language (automaton (l .table) (registers-of l)) (map letter es)
+In-language l es = High-language (automaton-of (l .table) (registers-of l)) (map letter es)
 
 -- Broken at p: the shown run is a run of the judged list that reaches `error` there, and if a feed or a draw found it, of every list that begins with the
 -- judged one; every path asked from now on is answered from it; the judged list, and in the second case every longer one, is in the language.
@@ -281,30 +281,35 @@ Determined =
 
 -- REFUSALS: each is answered exactly if its condition holds and no earlier one does.
 module _ (phase : Phase) (board book given wanted cap : ℕ) where
+  -- the cap is 1 to 64
   abbrev pub Cap-fits : Type 0
   Cap-fits = (0 < cap) × (cap ≤ 64)
 
-  abbrev pub Room-is : Type 0
-  Room-is = (40 * cap + 64 ≤ board) × (0 < book)
+  -- the board has its 40 × cap + 64 values, and the book an entry
+  abbrev pub Has-room : Type 0
+  Has-room = (40 * cap + 64 ≤ board) × (0 < book)
 
+  -- a begin tries 21 to 24 in order
   pub record Begin-refusals : Type 0 where
     pub is-21 : (opening-reason phase board book given wanted cap ≡ Some (of-watch BegunAlready)) ↔ (¬ (phase ≡ Blank))
     pub is-22 : (opening-reason phase board book given wanted cap ≡ Some (of-watch BadCap)) ↔ ((phase ≡ Blank) × (¬ Cap-fits))
-    pub is-23 : (opening-reason phase board book given wanted cap ≡ Some (of-watch OtherConstants)) ↔ ((phase ≡ Blank) × Cap-fits × (¬ (given ≡ wanted)))
-    pub is-24 : (opening-reason phase board book given wanted cap ≡ Some (of-watch SmallBoard)) ↔ ((phase ≡ Blank) × Cap-fits × (given ≡ wanted) × (¬ Room-is))
-    pub is-none : (opening-reason phase board book given wanted cap ≡ None) ↔ ((phase ≡ Blank) × Cap-fits × (given ≡ wanted) × Room-is)
+    pub is-23 : (opening-reason phase board book given wanted cap ≡ Some (of-watch OtherConstants)) ↔ ((phase ≡ Blank) × (Cap-fits × (¬ (given ≡ wanted))))
+    pub is-24 : (opening-reason phase board book given wanted cap ≡ Some (of-watch SmallBoard)) ↔ ((phase ≡ Blank) × (Cap-fits × ((given ≡ wanted) × (¬ Has-room))))
+    pub is-none : (opening-reason phase board book given wanted cap ≡ None) ↔ ((phase ≡ Blank) × (Cap-fits × ((given ≡ wanted) × Has-room)))
 
 module _ (P : Table) (id n : ℕ) where
   -- a call of a declared method with another count of values than its arity
-  abbrev pub Other-arity : Type 0
-  Other-arity = (calls id ≡ true) × ((m : ℕ × ℕ) × (m ∈ P .methods) × (id / 2 ≡ m .0) × (¬ (n ≡ m .1)))
+  abbrev pub Wrong-count : Type 0
+  Wrong-count = (calls id ≡ true) × ((m : ℕ × ℕ) × (m ∈ P .methods) × (id / 2 ≡ m .0) × (¬ (n ≡ m .1)))
 
+  -- a feed and a draw try 4, 5 and 30 in order, after the phase
   pub record Event-refusals : Type 0 where
     pub is-4 : (count-reason P id n ≡ Some WildId) ↔ (131071 < id)
     pub is-5 : (count-reason P id n ≡ Some TooManyValues) ↔ ((id ≤ 131071) × (most-values id < n))
-    pub is-30 : (count-reason P id n ≡ Some (of-watch OtherArity)) ↔ ((id ≤ 131071) × (n ≤ most-values id) × Other-arity)
-    pub is-none : (count-reason P id n ≡ None) ↔ ((id ≤ 131071) × (n ≤ most-values id) × (¬ Other-arity))
+    pub is-30 : (count-reason P id n ≡ Some (of-watch OtherArity)) ↔ ((id ≤ 131071) × ((n ≤ most-values id) × Wrong-count))
+    pub is-none : (count-reason P id n ≡ None) ↔ ((id ≤ 131071) × ((n ≤ most-values id) × (¬ Wrong-count)))
 
+-- Both hold for all numbers.
 abbrev pub Refusing : Type 0
 Refusing =
     ((phase : Phase) (board book given wanted cap : ℕ) → Begin-refusals phase board book given wanted cap) × ((P : Table) (id n : ℕ) → Event-refusals P id n)

@@ -53,8 +53,8 @@ fresh board book =
     record { board = board; book = book; phase = Blank; table = empty-table; constants = []; cap = 0; judged = []; mode = settled; position = None; shown = [] }
 
 -- the judged events, as a list that has ended or not
-abbrev pub world : Ledger → World
-world l = record { mode = l .mode; events = l .judged }
+abbrev pub world-of : Ledger → World
+world-of l = record { mode = l .mode; events = l .judged }
 
 abbrev pub registers-of : Ledger → Registers
 registers-of l = initial (l .table) (l .constants)
@@ -171,8 +171,8 @@ Allowed l w p path = (c : Configuration) × (c .state ≡ error) × Reach (l .ta
 -- position may be shown. Spilled and full: the list stays as it was, and the call is refused.
 abbrev pub Settles : Ledger → World → Phase → Ruling → Ledger × Answer → Type 0
 Settles l w idle (breaks p) r = (path : List ℕ) × Allowed l w p path × (r ≡ (broken-at l w p path, says Broken (Some p)))
-Settles l w idle spills r = r ≡ (turned l Spilled (world l), refuse l (of-watch IsSpilled))
-Settles l w idle overfills r = r ≡ (turned l Full (world l), refuse l (of-watch IsFull))
+Settles l w idle spills r = r ≡ (turned l Spilled (world-of l), refuse l (of-watch IsSpilled))
+Settles l w idle overfills r = r ≡ (turned l Full (world-of l), refuse l (of-watch IsFull))
 Settles l w idle goes-on r = r ≡ (turned l idle w, says idle None)
 
 -- the judged events with one more

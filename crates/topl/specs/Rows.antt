@@ -8,7 +8,7 @@ use lib.ListN.{drop}
 use lib.Dec.{eqb}
 use Rattle.topl.specs.Lists.{each, holds}
 use Rattle.topl.specs.Table.{Statement, Table, numbered, span}
-use Rattle.topl.specs.Runs.{Registers, Outcome, passes, fails, hangs, Configuration, World, outcome, alikeᶜ, Landing, quiet, has-come, moves, reached}
+use Rattle.topl.specs.Runs.{Registers, Outcome, passes, fails, hangs, Configuration, World, outcome-of, alikeᶜ, Landing, quiet, has-come, moves, reached}
 
 -- the row holds what is reached at p
 abbrev pub Stands : Table → Registers → World → ℕ → List Configuration → Type 0
@@ -39,7 +39,7 @@ lead p t hangs = none
 -- where this statement leads, if it leaves the state
 abbrev pub by-statement : World → ℕ × Configuration → Option (ℕ × Statement) → Option (ℕ × Configuration)
 by-statement w x none = none
-by-statement w x (some t) = cond (eqb (t .1 .source) (x .1 .state)) (lead (x .0) (t .1) (outcome w (x .0) (x .1) t)) none
+by-statement w x (some t) = cond (eqb (t .1 .source) (x .1 .state)) (lead (x .0) (t .1) (outcome-of w (x .0) (x .1) t)) none
 
 -- where one step leads, a skip or a statement's number
 abbrev pub by-step : Table → World → ℕ → ℕ × Configuration → Option (ℕ × Configuration)

@@ -87,8 +87,8 @@ Lets-skip settled o = o ≡ fails
 Lets-skip closed o = (s : Registers) → ¬ (o ≡ passes s)
 
 -- how a numbered statement fares at p
-abbrev pub outcome : World → ℕ → Configuration → ℕ × Statement → Outcome
-outcome w p c t = fares (matchers (t .1)) (c .registers) (drop p (w .events))
+abbrev pub outcome-of : World → ℕ → Configuration → ℕ × Statement → Outcome
+outcome-of w p c t = fares (matchers (t .1)) (c .registers) (drop p (w .events))
 
 -- the statement is one of the property's, and leaves the state
 abbrev pub Leaves : Table → Configuration → ℕ × Statement → Type 0
@@ -97,9 +97,9 @@ Leaves P c t = (t ∈ numbered P) × (t .1 .source ≡ c .state)
 -- A move from p and c, by its step: the statement's number, or 0 for a skip. A passing statement moves to its target, past its events. A skip moves past
 -- one event that has come and changes nothing else.
 pub data Move (P : Table) (w : World) (p : ℕ) (c : Configuration) : ℕ → ℕ → Configuration → Type 0 where
-  pass : (t : ℕ × Statement) (s : Registers) → Leaves P c t → outcome w p c t ≡ passes s →
+  pass : (t : ℕ × Statement) (s : Registers) → Leaves P c t → outcome-of w p c t ≡ passes s →
       Move P w p c (t .0) (p + span (t .1)) (record { state = t .1 .target; registers = s })
-  skip : p < length (w .events) → ((t : ℕ × Statement) → Leaves P c t → Lets-skip (w .mode) (outcome w p c t)) →
+  skip : p < length (w .events) → ((t : ℕ × Statement) → Leaves P c t → Lets-skip (w .mode) (outcome-of w p c t)) →
       Move P w p c 0 (suc p) c
 
 -- where every run first-configuration
@@ -149,10 +149,10 @@ calm closed hangs = true
 
 -- where one statement leads from c at p, if it leaves the state and passes; whether it lets a skip go on
 abbrev pub lands : World → ℕ → Configuration → ℕ × Statement → List Landing
-lands w p c t = cond (eqb (t .1 .source) (c .state)) (landing-of p t (outcome w p c t)) []
+lands w p c t = cond (eqb (t .1 .source) (c .state)) (landing-of p t (outcome-of w p c t)) []
 
 abbrev pub calms : World → ℕ → Configuration → ℕ × Statement → Bool
-calms w p c t = cond (eqb (t .1 .source) (c .state)) (calm (w .mode) (outcome w p c t)) true
+calms w p c t = cond (eqb (t .1 .source) (c .state)) (calm (w .mode) (outcome-of w p c t)) true
 
 -- where some statements lead; whether all of them let a skip go on
 abbrev pub passing : World → ℕ → Configuration → List (ℕ × Statement) → List Landing

@@ -112,8 +112,8 @@ abbrev pub label-matchers : Label → List Matcher
 label-matchers l = label-head l ∷ label-rest l
 
 -- The statement source -> target: l; ls. Labels joined by `;` match consecutive events.
-abbrev pub statement : ℕ → ℕ → Label → List Label → Statement
-statement source target l ls = record { source = source; target = target; head = label-head l; rest = label-rest l ++ each label-matchers ls }
+abbrev pub statement-of : ℕ → ℕ → Label → List Label → Statement
+statement-of source target l ls = record { source = source; target = target; head = label-head l; rest = label-rest l ++ each label-matchers ls }
 
 -- TABLES
 -- Every property has eight registers; those that it does not use hold nothing for ever.
@@ -133,7 +133,7 @@ empty-table = record { methods = []; constants = []; statements = [] }
 
 -- the statement start -> start: *
 abbrev pub implied : Statement
-implied = statement start start any-label []
+implied = statement-of start start any-label []
 
 -- statements numbered from n on, and last the implied one, numbered 65
 abbrev pub count-from : ℕ → List Statement → List (ℕ × Statement)

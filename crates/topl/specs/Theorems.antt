@@ -8,11 +8,11 @@ use mathlib.Core.List.{List, [], _∷_, _++_, map}
 use lib.ListN.{length, getD}
 use Rattle.topl.specs.Lists.{Class, nothing, _∈_, each, Distinct, holds, apart}
 use Rattle.topl.specs.Automata.{High-language}
-use Rattle.topl.specs.Table.{Event, calls, places, Lawful-event, Label, label-matchers, statement, matchers, Statement, Table, numbered, span, error, Lawful, is-lawful}
-use Rattle.topl.specs.Translation.{letter, automaton}
+use Rattle.topl.specs.Table.{Event, at, calls, places, Lawful-event, Label, label-matchers, statement-of, matchers, Statement, Table, numbered, span, error, Lawful, is-lawful}
+use Rattle.topl.specs.Translation.{letter, automaton-of}
 use Rattle.topl.specs.Runs.{Registers, Configuration, World, so-far, closing, Move, first-configuration, Reach, Reaches, Error-at, alikeᶜ, runs, reached}
 use Rattle.topl.specs.Rows.{Stands, incoming, replay}
-use Rattle.topl.specs.Deciding.{Ruling, breaks, spills, overfills, goes-on, sum, count, need, ruling, decides}
+use Rattle.topl.specs.Deciding.{Ruling, breaks, spills, overfills, goes-on, sum, count, need, ruling-at, decides}
 
 -- TABLES
 -- The test of a lawful table says exactly that it is one.
@@ -20,26 +20,23 @@ abbrev pub Tested : Type 0
 Tested = (P : Table) → (is-lawful P ≡ true) ↔ Lawful P
 
 -- A statement's matchers are those of its labels in turn.
-abbrev pub Joined : Type 0
-Joined = (source target : ℕ) (l : Label) (ls : List Label) → matchers (statement source target l ls) ≡ each label-matchers (l ∷ ls)
+abbrev pub Labels-join : Type 0
+Labels-join = (source target : ℕ) (l : Label) (ls : List Label) → matchers (statement-of source target l ls) ≡ each label-matchers (l ∷ ls)
 
 -- VALUES
--- an event as a hub files it: its id and its values
-pub record Filed (V : Type 0) : Type 0 where
-  pub id : ℕ
-  pub values : List V
+-- the event that the theory sees of an id and values of a kind
+abbrev pub seen : {V : Type 0} → (V → Class) → ℕ → List V → Event
+seen class id values = record { id = id; values = map class values }
 
--- its six places, with the value called nothing where none was given
-abbrev pub value-places : {V : Type 0} → V → Filed V → List V
-value-places none e = map (λ i. getD (cond (calls (e .id)) (none ∷ e .values) (e .values)) i none) (0 ∷ 1 ∷ 2 ∷ 3 ∷ 4 ∷ 5 ∷ [])
+-- the six places of these values, with the value called nothing where none was given
+abbrev pub value-places : {V : Type 0} → V → ℕ → List V → List V
+value-places none id values = map (λ i. getD (cond (calls id) (none ∷ values) values) i none) (0 ∷ 1 ∷ 2 ∷ 3 ∷ 4 ∷ 5 ∷ [])
 
--- the event that the theory sees of it
-abbrev pub seen : {V : Type 0} → (V → Class) → Filed V → Event
-seen class e = record { id = e .id; values = map class (e .values) }
-
--- The class of a place is the place of the classes, for every kind whose value called nothing has the class nothing.
-abbrev pub Placed : Type 1
-Placed = (V : Type 0) (class : V → Class) (none : V) (e : Filed V) → class none ≡ nothing → places (seen class e) ≡ map class (value-places none e)
+-- Of a kind: the class of a place is the place of the classes, and a place has the class nothing exactly if it holds nothing.
+abbrev pub Places-agree : {V : Type 0} → (V → Class) → V → Type 0
+Places-agree {V} class none =
+    (id : ℕ) (values : List V) →
+    (places (seen class id values) ≡ map class (value-places none id values)) × ((i : ℕ) → (at (map class values) i ≡ nothing) ↔ (getD values i none ≡ none))
 
 -- RUNS AND THE LANGUAGE
 -- A settled run of a list is a settled run and a run of every list that begins with it, and a run of the list itself, with the same steps.
@@ -50,7 +47,7 @@ Persists =
 
 -- A list is in the language of the property's automaton exactly if some run of the closed list reaches `error`.
 abbrev pub Recognizes : Type 0
-Recognizes = (P : Table) (k : Registers) (L : List Event) → Lawful P → High-language (automaton P k) (map letter L) ↔ ((p : ℕ) × Error-at P k (closing L) p)
+Recognizes = (P : Table) (k : Registers) (L : List Event) → Lawful P → High-language (automaton-of P k) (map letter L) ↔ ((p : ℕ) × Error-at P k (closing L) p)
 
 -- `runs` lists each run that leads to the position, and no other; `reached` lists each configuration that some run reaches there, once, and no other.
 abbrev pub Enumerates : Type 0
@@ -79,8 +76,8 @@ Errs-by P k w p path = (c : Configuration) × (c .state ≡ error) × Reach P k 
 
 -- The settled runs of a list are exactly the runs of it that are runs of every list of lawful events that begins with it: nothing else can be relied on
 -- while more may come.
-abbrev pub Settled : Type 0
-Settled =
+abbrev pub Certain : Type 0
+Certain =
     (P : Table) (k : Registers) (L : List Event) (p : ℕ) (path : List ℕ) → Lawful P →
     Errs-by P k (so-far L) p path ↔ ((X : List Event) → All-lawful X → Errs-by P k (closing (L ++ X)) p path)
 
@@ -139,13 +136,13 @@ module _ (P : Table) (k : Registers) (cap book : ℕ) (before now : World) where
   -- The same position by position, as a loop finds it: where nothing is ruled below p, what is ruled at p decides; where nothing is ruled at all, nothing
   -- decides.
   pub record Finds : Type 0 where
-    pub found : (p : ℕ) (r : Ruling) → p ≤ length (now .events) → ((q : ℕ) → q < p → ruling P k cap book before now q ≡ goes-on) → ¬ (r ≡ goes-on) → ruling P k cap book before now p ≡ r →
+    pub found : (p : ℕ) (r : Ruling) → p ≤ length (now .events) → ((q : ℕ) → q < p → ruling-at P k cap book before now q ≡ goes-on) → ¬ (r ≡ goes-on) → ruling-at P k cap book before now p ≡ r →
         decides P k cap book before now ≡ r
-    pub never : ((q : ℕ) → q ≤ length (now .events) → ruling P k cap book before now q ≡ goes-on) → decides P k cap book before now ≡ goes-on
+    pub never : ((q : ℕ) → q ≤ length (now .events) → ruling-at P k cap book before now q ≡ goes-on) → decides P k cap book before now ≡ goes-on
 
 -- The executable rule says exactly the rule in words.
-abbrev pub Decides : Type 0
-Decides = (P : Table) (k : Registers) (cap book : ℕ) (before now : World) → Rules P k cap book before now
+abbrev pub Rule-in-words : Type 0
+Rule-in-words = (P : Table) (k : Registers) (cap book : ℕ) (before now : World) → Rules P k cap book before now
 
 -- The first position that rules decides.
 abbrev pub Finding : Type 0
@@ -182,6 +179,6 @@ Bounded = (P : Table) (k : Registers) (cap book : ℕ) (L : List Event) → Stea
 abbrev pub Verdicts : Type 0
 Verdicts =
     (P : Table) (k : Registers) (cap book : ℕ) (before : World) (L : List Event) → Lawful P →
-    ((p : ℕ) → decides P k cap book before (so-far L) ≡ breaks p → (X : List Event) → High-language (automaton P k) (map letter (L ++ X))) ×
-    ((p : ℕ) → decides P k cap book before (closing L) ≡ breaks p → High-language (automaton P k) (map letter L)) ×
-    (decides P k cap book before (closing L) ≡ goes-on → ¬ High-language (automaton P k) (map letter L))
+    ((p : ℕ) → decides P k cap book before (so-far L) ≡ breaks p → (X : List Event) → High-language (automaton-of P k) (map letter (L ++ X))) ×
+    ((p : ℕ) → decides P k cap book before (closing L) ≡ breaks p → High-language (automaton-of P k) (map letter L)) ×
+    (decides P k cap book before (closing L) ≡ goes-on → ¬ High-language (automaton-of P k) (map letter L))

@@ -63,5 +63,5 @@ abbrev pub transition : List ℕ → ℕ × Statement → ℕ × List Guarded ×
 transition is t = (t .1 .source, map (translated is) (matchers (t .1)), t .1 .target)
 
 -- The automaton of a property whose registers hold s at first: it begins in `start`, and only `error` is final.
-abbrev pub automaton : Table → List Class → Automaton (List Guarded)
-automaton P s = record { initial = start; store = loaded (ids P) s; δ = map (transition (ids P)) (numbered P); final = error ∷ [] }
+abbrev pub automaton-of : Table → List Class → Automaton (List Guarded)
+automaton-of P s = record { initial = start; store = loaded (ids P) s; δ = map (transition (ids P)) (numbered P); final = error ∷ [] }

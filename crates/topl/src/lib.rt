@@ -1,7 +1,9 @@
 // The theory of the watch: automata, runs, the deciding rule and the ledger. Each function is a theorem, which its contract states.
-ghost use Rattle.topl.specs.Theorems.{Bounded, Decides, Enumerates, Finding, Gains, Persists, Recognizes, Replays, Stepping, Verdicts, Watching};
-ghost use Rattle.topl.specs.History.{Answered, Determined, Lasting, One-run, Telling};
-ghost use Rattle.topl.specs.Days.{Worked};
+use kinds::kind::Kind;
+use kinds::phase::Phase;
+ghost use Rattle.topl.specs.Theorems.{Bounded, Certain, Enumerates, Few-steps, Finding, Gains, Labels-join, Persists, Places-agree, Recognizes, Replays, Rule-in-words, Stepping, Tested, Verdicts, Watching};
+ghost use Rattle.topl.specs.History.{Answered, Determined, One-run, Stays-sound, Telling};
+ghost use Rattle.topl.specs.Days.{Tells-of, Worked, stale-end};
 ghost use Rattle.topl.specs.Examples.{Examples, Excluded};
 
 // Settled runs persist: events that come later, and the end of the list, leave them runs with the same steps.
@@ -36,7 +38,7 @@ pub fn rows_step()
 
 // The executable deciding rule says exactly the rule in words.
 pub fn the_lowest_position_decides()
-    ensures { λ _. ⌜ Decides ⌝ }
+    ensures { λ _. ⌜ Rule-in-words ⌝ }
 {}
 
 // The first position that rules decides, as a loop finds it.
@@ -61,7 +63,7 @@ pub fn verdicts_agree_with_the_language()
 
 // Every call keeps what the ledger's phase says true.
 pub fn the_ledger_stays_sound()
-    ensures { λ _. ⌜ Lasting ⌝ }
+    ensures { λ _. ⌜ Stays-sound ⌝ }
 {}
 
 // Every history of calls is true as a whole: at every moment, and in every call.
@@ -98,3 +100,48 @@ pub fn worked_examples_hold()
 pub fn other_readings_fail()
     ensures { λ _. ⌜ Excluded ⌝ }
 {}
+
+// The test of a lawful table says exactly that it is one.
+pub fn lawful_tables_are_tested()
+    ensures { λ _. ⌜ Tested ⌝ }
+{}
+
+// A statement's matchers are those of its labels in turn.
+pub fn labels_join()
+    ensures { λ _. ⌜ Labels-join ⌝ }
+{}
+
+// Every step of a run is at most 65.
+pub fn steps_fit_a_byte()
+    ensures { λ _. ⌜ Few-steps ⌝ }
+{}
+
+// The settled runs of a list are those that every longer list keeps.
+pub fn settled_runs_are_the_certain_ones()
+    ensures { λ _. ⌜ Certain ⌝ }
+{}
+
+// The class of a place is the place of the classes, for every kind.
+pub fn places_have_their_classes<K: Kind>()
+    ensures { λ _. ⌜ Places-agree (K·Kind .class) (K·Kind .nothing) ⌝ }
+{}
+
+// What a broken watch tells of a day.
+pub struct Told {
+    pub phase: Phase,
+    pub judged: usize,
+    pub position: usize,
+    pub path: [u8; 3],
+}
+
+// The worked day of Stale, as code tells it.
+pub fn told_of_stale() -> Told
+    ensures { λ r. ⌜ Tells-of r stale-end ⌝ }
+{
+    Told {
+        phase: Phase::Broken,
+        judged: 4,
+        position: 4,
+        path: [1, 2, 3],
+    }
+}
