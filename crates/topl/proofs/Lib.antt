@@ -23,3 +23,5 @@ pub mod Days
 pub mod Examples
 pub mod Placed
 pub mod Settled
+pub mod Needs
+pub mod Refusing

@@ -1,8 +1,8 @@
 // The theory of the watch: automata, runs, the deciding rule and the ledger. Each function is a theorem, which its contract states.
 use kinds::kind::Kind;
 use kinds::phase::Phase;
-ghost use Rattle.topl.specs.Theorems.{Bounded, Certain, Enumerates, Few-steps, Finding, Gains, Labels-join, Persists, Places-agree, Recognizes, Replays, Rule-in-words, Stepping, Tested, Verdicts, Watching};
-ghost use Rattle.topl.specs.History.{Answered, Determined, One-run, Stays-sound, Telling};
+ghost use Rattle.topl.specs.Theorems.{Bounded, Certain, Enumerates, Few-steps, Finding, Gains, Labels-join, Needs, Persists, Places-agree, Recognizes, Replays, Rule-in-words, Stepping, Tested, Verdicts, Watching};
+ghost use Rattle.topl.specs.History.{Answered, Determined, One-run, Refusing, Stays-sound, Telling};
 ghost use Rattle.topl.specs.Days.{Tells-of, Worked, stale-end};
 ghost use Rattle.topl.specs.Examples.{Examples, Excluded};
 
@@ -119,6 +119,16 @@ pub fn steps_fit_a_byte()
 // The settled runs of a list are those that every longer list keeps.
 pub fn settled_runs_are_the_certain_ones()
     ensures { λ _. ⌜ Certain ⌝ }
+{}
+
+// The need is the number of configurations that count, each once at its position.
+pub fn the_need_is_counted()
+    ensures { λ _. ⌜ Needs ⌝ }
+{}
+
+// Each refusal is answered exactly if its condition holds and no earlier one does.
+pub fn refusals_are_tried_in_order()
+    ensures { λ _. ⌜ Refusing ⌝ }
 {}
 
 // The class of a place is the place of the classes, for every kind.
