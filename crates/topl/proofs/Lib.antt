@@ -25,3 +25,6 @@ pub mod Placed
 pub mod Settled
 pub mod Needs
 pub mod Refusing
+pub mod Loops
+pub mod Moves
+pub mod Positions

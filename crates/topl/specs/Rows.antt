@@ -1,18 +1,29 @@
 -- What code can keep of the runs, in facts that have one proof at most: a row of configurations for a position, and the steps of a run.
-use Prim.Native.Nat.{ℕ, zero, suc, _+_, _-_}
+use Prim.Native.Nat.{ℕ, zero, suc, _+_, _-_, _<_}
 use mathlib.Core.Path.{_≡_}
 use mathlib.Core.Bool.{Bool, true, false, cond, _&&_}
 use mathlib.Core.Option.{Option, none, some}
 use mathlib.Core.List.{List, [], _∷_, _++_}
-use lib.ListN.{drop}
+use lib.ListN.{length, drop}
 use lib.Dec.{eqb}
-use Rattle.topl.specs.Lists.{each, holds}
+use Rattle.topl.specs.Lists.{each, holds, apart}
 use Rattle.topl.specs.Table.{Statement, Table, numbered, span}
 use Rattle.topl.specs.Runs.{Registers, Outcome, passes, fails, hangs, Configuration, World, outcome-of, alikeᶜ, Landing, quiet, has-come, moves, reached}
 
 -- the row holds what is reached at p
 abbrev pub Stands : Table → Registers → World → ℕ → List Configuration → Type 0
 Stands P k w p row = (c : Configuration) → holds alikeᶜ row c ≡ holds alikeᶜ (reached P k w p) c
+
+-- more than cap configurations are among these
+abbrev pub Over : ℕ → List Configuration → Type 0
+Over cap truth = (xs : List Configuration) × (apart alikeᶜ xs ≡ true) × (cap < length xs) × ((c : Configuration) → holds alikeᶜ xs c ≡ true → holds alikeᶜ truth c ≡ true)
+
+-- A row that is filled with some configurations holds each of them once and no other; or it has spilled, and holds no other.
+pub record Filled (cap : ℕ) (row truth : List Configuration) (spilled : Bool) : Type 0 where
+  pub same : spilled ≡ false → (c : Configuration) → holds alikeᶜ row c ≡ holds alikeᶜ truth c
+  pub within : (c : Configuration) → holds alikeᶜ row c ≡ true → holds alikeᶜ truth c ≡ true
+  pub distinct : apart alikeᶜ row ≡ true
+  pub over : spilled ≡ true → Over cap truth
 
 -- of some landings, the configurations at p
 abbrev pub landed : ℕ → List Landing → List Configuration
