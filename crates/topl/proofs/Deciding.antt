@@ -14,7 +14,7 @@ use Rattle.topl.specs.Lists.{_∈_}
 use Rattle.topl.specs.Table.{Table, error}
 use Rattle.topl.specs.Runs.{Configuration, Error-at, Registers, World, reached}
 use Rattle.topl.specs.Deciding.{Ruling, any-error, breaks, count, decides, first-ruling, goes-on, need, or-else, overfills, ruling-at, spills}
-use Rattle.topl.specs.Theorems.{Rule-in-words, Finding, Lowest, Rules, Undecided}
+use Rattle.topl.specs.Theorems.{Finding, Lowest, Rule-in-words, Rules, Undecided}
 use Rattle.topl.proofs.Enumerate.{enumerates}
 
 abbrev tag : Ruling → ℕ
@@ -147,10 +147,10 @@ module _ (P : Table) (k : Registers) (cap book : ℕ) (before now : World) where
   abbrev beyond : ℕ → Bool
   beyond p = ltb book (need P k before now p)
 
-  fails-so : (p : ℕ) → errs p ≡ true → Error-at P k now p
+  pub fails-so : (p : ℕ) → any-error (reached P k now p) ≡ true → Error-at P k now p
   fails-so p e = let x = any-error-sound (reached P k now p) e in (x .0, x .2, enumerates P k now p .2 (x .0) .0 (x .1))
 
-  so-fails : (p : ℕ) → Error-at P k now p → errs p ≡ true
+  pub so-fails : (p : ℕ) → Error-at P k now p → any-error (reached P k now p) ≡ true
   so-fails p x = any-error-complete (reached P k now p) (enumerates P k now p .2 (x .0) .1 (x .2)) (x .1)
 
   not-fails : (p : ℕ) → errs p ≡ false → ¬ Error-at P k now p

@@ -10,14 +10,14 @@ use lib.Seq.{drop-drop}
 use Rattle.std.proofs.shelf.Tests.{cases-lt}
 use Rattle.topl.specs.Lists.{_∈_, each}
 use Rattle.topl.specs.Automata.{Accepts, Automaton, Guarded, High-conf, High-language, High-path, Skip-transition, Standard-transition, Tuple, by-skip, by-standard, initial-conf, no-step, straight}
-use Rattle.topl.specs.Table.{Event, Statement, Table, error, matchers, numbered, span}
+use Rattle.topl.specs.Table.{Event, Lawful, Statement, Table, matchers, numbered, span}
 use Rattle.topl.specs.Translation.{automaton-of, ids, letter, loaded, mentions, transition, translated}
 use Rattle.topl.specs.Runs.{Configuration, Error-at, Leaves, Reach, Reaches, Registers, at-start, closing, first-configuration, onward, outcome-of, pass, passes, skip}
 use Rattle.topl.specs.Theorems.{Recognizes}
-use Rattle.topl.proofs.Basics.{∈-each}
+use Rattle.topl.proofs.Basics.{∈-each, ∈-once, eqb-tests}
 use Rattle.topl.proofs.Persist.{reach-bound}
 use Rattle.topl.proofs.Chain.{accepts-fires, fires-accepts}
-use Rattle.topl.proofs.Lawful.{lawful-final}
+use Rattle.topl.proofs.Lawful.{lawful-final, lawful-once}
 use Rattle.topl.proofs.Translate.{AllKnown, passes-fires, fires-passes}
 
 map-append : {X Y : Type 0} (f : X → Y) (xs ys : List X) → map f (xs ++ ys) ≡ map f xs ++ map f ys
@@ -30,7 +30,7 @@ labels no-step = refl
 labels {u = u} (by-standard {w = w} {v = v} st h) = st .4 ∙ ap (λ (r : List Tuple). w ++ r) (labels h) ∙ sym (append-assoc w v (u .1))
 labels {u = u} (by-skip {w = w} {v = v} st h) = st .1 ∙ ap (λ (r : List Tuple). st .0 ∷ r) (labels h) ∙ ap (λ (w : List Tuple). w ++ (v ++ u .1)) (sym (st .2)) ∙ sym (append-assoc w v (u .1))
 
-module _ (P : Table) (k : Registers) (L : List Event) where
+module _ (P : Table) (law : Lawful P) (k : Registers) (L : List Event) where
   A : Automaton (List Guarded)
   A = automaton-of P k
 
@@ -39,14 +39,14 @@ module _ (P : Table) (k : Registers) (L : List Event) where
   shown p c = ((c .state, loaded (ids P) (c .registers)), map letter (drop p L))
 
   known : (t : ℕ × Statement) → t ∈ numbered P → AllKnown (ids P) (matchers (t .1))
-  known t h m i j q = ∈-each (λ (t : ℕ × Statement). each mentions (matchers (t .1))) h (∈-each mentions i q)
+  known t h m i = (λ j q. ∈-once eqb-tests (each (λ t. each mentions (matchers (t .1))) (numbered P)) (∈-each (λ (t : ℕ × Statement). each mentions (matchers (t .1))) h (∈-each mentions i q)), lawful-once P law t m h i)
 
   taken : (p n : ℕ) → map letter (drop p L) ≡ map letter (take n (drop p L)) ++ map letter (drop (p + n) L)
   taken p n =
       ap (map letter) (sym (take-append-drop n (drop p L))) ∙ map-append letter (take n (drop p L)) (drop n (drop p L)) ∙
       ap (λ (r : List Event). map letter (take n (drop p L)) ++ map letter r) (drop-drop n p L)
 
-  -- a passing statement is a by-standard transition
+  -- a passing statement is a standard transition
   to-standard : (p : ℕ) (c : Configuration) (t : ℕ × Statement) (s : Registers) → Leaves P c t → outcome-of (closing L) p c t ≡ passes s →
       Standard-transition A (shown p c) (map letter (take (span (t .1)) (drop p L))) (shown (p + span (t .1)) (record { state = t .1 .target; registers = s }))
   unfolding A shown
@@ -63,7 +63,7 @@ module _ (P : Table) (k : Registers) (L : List Event) where
   Passed : ℕ → Configuration → High-conf → Type 0
   Passed p c z = (t : ℕ × Statement) × (s : Registers) × Leaves P c t × (outcome-of (closing L) p c t ≡ passes s) × (z ≡ shown (p + span (t .1)) (record { state = t .1 .target; registers = s }))
 
-  -- a by-standard transition is a passing statement
+  -- a standard transition is a passing statement
   of-standard : (p : ℕ) (c : Configuration) (w : List Tuple) (z : High-conf) → Standard-transition A (shown p c) w z → Passed p c z
   unfolding A shown Passed
   of-standard p c w z st =
@@ -141,15 +141,15 @@ module _ (P : Table) (k : Registers) (L : List Event) where
       let (p, c, i, r) = follow h (0, first-configuration k, λ j. (initial-conf A, e j), ([], at-start)) in
       (p, (c, sym (ap (λ (y : High-conf). y .0 .0) i) ∙ List·Memᴰ·eq-of-singleton m, r))
 
-  of-run : ((t : ℕ × Statement) → t ∈ numbered P → ¬ (t .1 .source ≡ error)) → (p : ℕ) × Error-at P k (closing L) p → High-language A (map letter L)
+  of-run : (p : ℕ) × Error-at P k (closing L) p → High-language A (map letter L)
   unfolding A shown
-  of-run no-way (p, (c, e, r)) =
+  of-run (p, (c, e, r)) =
       let b : p ≤ length L = reach-bound (r .1) in
-      let i = idles (length L - p) p c (omega arith) (λ t l. no-way t (l .0) (l .1 ∙ e)) in
+      let i = idles (length L - p) p c (omega arith) (λ t l. lawful-final P law t (l .0) (l .1 ∙ e)) in
       let h = from-start (r .1) (i .0) (i .1) in
       let v : h .0 ≡ map letter L = sym (append-nil (h .0)) ∙ sym (labels (h .1)) in
       (map letter L, c .state, loaded (ids P) (c .registers), List·Memᴰ·head e, subst (λ (v : List Tuple). High-path A (initial-conf A, map letter L) v ((c .state, loaded (ids P) (c .registers)), [])) v (h .1))
 
 pub recognizes : Recognizes
 unfolding A
-recognizes P k L law = (to-run P k L, of-run P k L (lawful-final P law))
+recognizes P k L law = (to-run P law k L, of-run P law k L)

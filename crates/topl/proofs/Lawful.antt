@@ -42,6 +42,13 @@ module _ (P : Table) (law : Lawful P) where
       ⊎-elim (λ (h : t .1 ∈ P .statements). law .statements-lawful (t .1) h .not-from-error q) (λ (e : t ≡ (65, implied)). let k : t .1 .source ≡ 0 = (λ j. e j .1 .source) in omega arith)
       (written-or-implied 1 (P .statements) m)
 
+  -- no matcher writes a register twice
+  pub lawful-once : (t : ℕ × Statement) (m : Matcher) → t ∈ numbered P → m ∈ matchers (t .1) → Distinct (each overwrites (patterns m))
+  lawful-once t m i j =
+      ⊎-elim (λ (h : t .1 ∈ P .statements). law .statements-lawful (t .1) h .matched m j .once-written)
+      (λ (e : t ≡ (65, implied)). subst (λ (m : Matcher). Distinct (each overwrites (patterns m))) (sym (List·Memᴰ·eq-of-singleton (subst (λ (u : ℕ × Statement). m ∈ matchers (u .1)) e j))) tt)
+      (written-or-implied 1 (P .statements) i)
+
 -- THE TEST
 module _ {X : Type 0} (test : X → Bool) where
   pub every-sound : {x : X} {xs : List X} → x ∈ xs → every test xs ≡ true → test x ≡ true

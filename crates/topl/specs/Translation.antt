@@ -4,7 +4,7 @@ use mathlib.Core.Bool.{cond}
 use mathlib.Core.List.{List, [], _∷_, _++_, map}
 use lib.ListN.{length}
 use lib.Dec.{eqb}
-use Rattle.topl.specs.Lists.{Class, each}
+use Rattle.topl.specs.Lists.{Class, each, once}
 use Rattle.topl.specs.Automata.{ident, given, Tuple, Guard, eq, neq, always, both, Action, nop, assign, after, Guarded, Automaton}
 use Rattle.topl.specs.Table.{Event, places, Pattern, Any, Write, Same, Differs, Matcher, any-event, event-of, Statement, matchers, start, error, Table, numbered}
 
@@ -17,9 +17,9 @@ abbrev pub mentions : Matcher → List ℕ
 mentions any-event = []
 mentions (event-of i ps) = i ∷ []
 
--- the event ids that the property mentions
+-- the event ids that the property mentions, each once
 abbrev pub ids : Table → List ℕ
-ids P = each (λ t. each mentions (matchers (t .1))) (numbered P)
+ids P = once eqb (each (λ t. each mentions (matchers (t .1))) (numbered P))
 
 -- The automaton's registers: one for each event id that is mentioned, which holds it for ever, and then the property's own.
 abbrev pub loaded : List ℕ → List Class → Tuple
@@ -48,10 +48,11 @@ abbrev pub guards-of : ℕ → ℕ → List Pattern → Guard
 guards-of m j [] = always
 guards-of m j (p ∷ ps) = both (guard-of m j p) (guards-of m (suc j) ps)
 
--- All their actions, the first one first. The order matters only where one matcher writes a register twice, which no lawful table does.
+-- All their actions, composed: the first one after the others. The order matters only where one matcher writes a register twice, which none of a lawful
+-- table does; a run writes the first one first.
 abbrev pub actions-of : ℕ → ℕ → List Pattern → Action
 actions-of m j [] = nop
-actions-of m j (p ∷ ps) = after (actions-of m (suc j) ps) (action-of m j p)
+actions-of m j (p ∷ ps) = after (action-of m j p) (actions-of m (suc j) ps)
 
 -- what a matcher becomes: the letter's first component is the id, and the patterns stand from the second on
 abbrev pub translated : List ℕ → Matcher → Guarded
