@@ -1,5 +1,6 @@
 pub mod Cases
 pub mod Labels
 pub mod Numbers
+pub mod Phases
 pub mod Readings
 pub mod Refusals

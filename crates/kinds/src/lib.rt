@@ -5,4 +5,6 @@ pub mod label;
 pub mod labels;
 pub mod number;
 pub mod numbers;
+pub mod phase;
 pub mod refusal;
+pub mod watch_reason;

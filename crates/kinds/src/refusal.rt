@@ -1,4 +1,7 @@
 // Refusals: which layer found a fault, what it is, and where.
+use crate::watch_reason::WatchReason;
+use crate::watch_reason::WatchReasonDebug;
+use crate::watch_reason::WatchReasonPartialEq;
 ghost use mathlib.Core.Path.{_≡_};
 ghost use Rattle.kinds.specs.Refusals.{name-of, number-of, placed};
 
@@ -32,6 +35,8 @@ pub enum Reason {
     TooLong,
     // a mailbox holds as many events as it has places
     NoRoom,
+    // what only a watch refuses
+    Watch(WatchReason),
 }
 
 // A fault as the layer finds it, before anyone has told its place.
@@ -86,6 +91,7 @@ impl Reason {
             Reason::BadLabel => 6,
             Reason::TooLong => 7,
             Reason::NoRoom => 50,
+            Reason::Watch(reason) => reason.number(),
         }
     }
 }

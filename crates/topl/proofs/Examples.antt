@@ -1,0 +1,79 @@
+-- The further examples, computed.
+use Prim.Native.Nat.{ℕ, zero, suc, _≤_, _<_}
+use native.Mathlib.Omega.{arith}
+use mathlib.Core.Path.{_≡_, refl, sym, ap, subst, _∙_}
+use mathlib.Core.Logic.{_⊎_, inl, inr, ⊎-elim}
+use mathlib.Core.Bool.{Bool, true, false, cond, true≢false, false≢true}
+use mathlib.Core.List.{List, [], _∷_, _++_}
+use lib.ListN.{length}
+use Rattle.std.proofs.shelf.Tests.{cases-lt}
+use Rattle.topl.specs.Table.{Table}
+use Rattle.topl.specs.Runs.{Error-at, Registers, World, closing, reached, runs, so-far}
+use Rattle.topl.specs.Deciding.{any-error}
+use Rattle.topl.specs.Ledger.{rule}
+use Rattle.topl.specs.History.{made}
+use Rattle.topl.specs.Days.{applied, begun-over, board, first-path, gpr, gprz, number, stale, wait}
+use Rattle.topl.specs.Examples.{Examples, Excluded, cut-source, fifth, joined, limited, odd-source, returned-other, rewritten}
+use Rattle.topl.proofs.Enumerate.{enumerates}
+use Rattle.topl.proofs.Persist.{reach-bound}
+use Rattle.topl.proofs.Deciding.{any-error-sound, any-error-complete}
+use Rattle.topl.proofs.Sole.{only-run, only-so, _also_}
+
+pub examples : Examples
+unfolding rule runs reached
+examples = record {
+  constant-is-set = only-so (made board 16384 []) _ (65 ∷ 1 ∷ []) (tt also tt also only-run (begun-over 16384 limited (number 7 ∷ []) 64) _ 2 _ refl also tt);
+  fifth-parameter = only-so (made board 16384 []) _ (1 ∷ 0 ∷ 2 ∷ []) (tt also tt also tt also only-run (begun-over 16384 fifth [] 64) _ 3 _ refl also tt);
+  void-is-not-same = only-so (made board 16384 []) _ [] (tt also tt also tt also tt also tt);
+  void-differs = only-so (made board 16384 []) _ (1 ∷ 2 ∷ []) (tt also tt also only-run (begun-over 16384 returned-other [] 64) _ 2 _ refl also tt);
+  draw-of-other-arity = only-so (made board 16384 (odd-source ∷ [])) _ [] (tt also tt also tt also tt also tt also tt also tt);
+  refused-draw-takes-one = only-so (made board 16384 (odd-source ∷ [])) _ [] (tt also tt also tt);
+  ending-is-passed-on = only-so (made board 16384 (cut-source ∷ [])) _ [] (tt also tt also tt also tt also tt);
+  not-begun = only-so (made board 16384 (cut-source ∷ [])) _ [] (tt also tt also tt also tt also tt);
+  begun-already = only-so (made board 16384 []) _ [] (tt also tt also tt also tt);
+  bad-cap = only-so (made board 16384 []) _ [] (tt also tt also tt also tt also tt);
+  board-is-short = only-so (made 103 16384 []) _ [] (tt also tt);
+  board-is-enough = only-so (made 104 1 []) _ [] (tt also tt);
+  book-is-empty = only-so (made board 0 []) _ [] (tt also tt);
+  once-broken = only-so (made board 16384 (cut-source ∷ [])) _ first-path
+      (tt also tt also tt also tt also only-run (begun-over 16384 stale [] 64) (so-far applied) 4 first-path refl also tt also tt also tt also tt also tt also tt also tt);
+  once-kept = only-so (made board 16384 (cut-source ∷ [])) _ [] (tt also tt also tt also tt also tt also tt also tt);
+  unlawful-events = only-so (made board 16384 []) _ [] (tt also tt also tt also tt also tt also tt also tt also tt);
+  empty-table-keeps = only-so (made board 16384 []) _ [] (tt also tt also tt also tt);
+}
+
+-- is `error` reached at one of n positions from 0 on
+abbrev any-at : Table → Registers → World → ℕ → Bool
+any-at P k w zero = false
+any-at P k w (suc n) = cond (any-error (reached P k w n)) true (any-at P k w n)
+
+found-at : (P : Table) (k : Registers) (w : World) (n : ℕ) → any-at P k w n ≡ true → (p : ℕ) × Error-at P k w p
+found-at P k w zero e = absurd (false≢true e)
+found-at P k w (suc n) e = go (found-at P k w n) (any-error (reached P k w n)) refl e
+  where
+    go : (any-at P k w n ≡ true → (p : ℕ) × Error-at P k w p) → (b : Bool) → any-error (reached P k w n) ≡ b → cond b true (any-at P k w n) ≡ true → (p : ℕ) × Error-at P k w p
+    go below true h i = let x = any-error-sound (reached P k w n) h in (n, (x .0, x .2, enumerates P k w n .2 (x .0) .0 (x .1)))
+    go below false h i = below i
+
+none-at : (P : Table) (k : Registers) (w : World) (n : ℕ) → any-at P k w n ≡ false → (p : ℕ) → p < n → ¬ Error-at P k w p
+none-at P k w zero e p l x = absurd (omega arith)
+none-at P k w (suc n) e p l x = go (λ i m. none-at P k w n i p m x) (any-error (reached P k w n)) refl e (cases-lt p n)
+  where
+    go : (any-at P k w n ≡ false → p < n → ⊥) → (b : Bool) → any-error (reached P k w n) ≡ b → cond b true (any-at P k w n) ≡ false → (p < n) ⊎ (n ≤ p) → ⊥
+    go below true h i c = true≢false i
+    go below false h i (inl m) = below i m
+    go below false h i (inr m) =
+        let q : p ≡ n = omega arith in
+        let y = subst (λ (q : ℕ). Error-at P k w q) q x in
+        true≢false (sym (any-error-complete (reached P k w n) (enumerates P k w n .2 (y .0) .1 (y .2)) (y .1)) ∙ h)
+
+none-anywhere : (P : Table) (k : Registers) (w : World) → any-at P k w (suc (length (w .events))) ≡ false → ¬ ((p : ℕ) × Error-at P k w p)
+none-anywhere P k w e (p, x) = let b = reach-bound (x .2 .1) in none-at P k w (suc (length (w .events))) e p (omega arith) x
+
+pub excluded : Excluded
+unfolding runs reached
+excluded = record {
+  no-hasty-skip = (found-at wait _ (closing gpr) 4 refl, none-anywhere wait _ (so-far gpr) refl, none-anywhere wait _ (closing gprz) refl);
+  reads-come-first = (found-at rewritten _ (closing _) 3 refl, none-anywhere rewritten _ (closing _) refl);
+  undeclared-calls-count = (found-at joined _ (closing _) 3 refl, none-anywhere joined _ (closing _) refl);
+}

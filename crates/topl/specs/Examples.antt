@@ -1,0 +1,147 @@
+-- Further worked histories, one for each clause of the rules that no worked day shows, and the readings that the rules exclude.
+use Prim.Native.Nat.{ℕ}
+use mathlib.Core.Path.{_≡_}
+use mathlib.Core.List.{List, [], _∷_, _++_, map}
+use lib.ListN.{take, replicate}
+use Rattle.std.specs.declared.option.Option.the-variants.{Some, None}
+use Rattle.kinds.specs.declared.phase.Phase.the-variants.{Blank, Running, Broken, Spilled, Full, Kept}
+use Rattle.kinds.specs.declared.refusal.Layer.the-variants.{Watch, Journal}
+use Rattle.kinds.specs.declared.refusal.Reason.the-variants.{Cut, WildId, TooManyValues, Watch as of-watch}
+use Rattle.kinds.specs.declared.watch_reason.WatchReason.the-variants.{NotBegun, BegunAlready, BadCap, OtherConstants, SmallBoard, OtherArity, IsBroken, IsSpilled, IsFull, IsKept, NotBroken, SmallPage}
+use Rattle.kinds.specs.declared.refusal.Refusal.{Refusal}
+use Rattle.kinds.specs.declared.refusal.Ending.the-variants.{End, Refused}
+use Rattle.topl.specs.Lists.{Class, nothing}
+use Rattle.topl.specs.Table.{Event, Any, Write, Same, Differs, call-label, return-label, whole-label, any-label, statement-of, Table, empty-table, start, error}
+use Rattle.topl.specs.Runs.{so-far, closing, Error-at}
+use Rattle.topl.specs.Ledger.{Ledger, fresh, began, turned, broken-at, Answer, begun, no-event, no-source, says, verdict-is, wrote, unwritten, refused, Source, registers-of}
+use Rattle.topl.specs.History.{Call, to-begin, to-feed, to-draw, to-close, ask-verdict, ask-path, Moment, made, Log, History, In-language}
+use Rattle.topl.specs.Days.{Only, number, call-of, return-of, still-running, found-broken, watch-refusal, refused-for, all-fed, board, begun-over, alone, Day, stale, stale-day, applied, wait, gpr, gprz, first-path}
+
+-- PROPERTIES
+-- start -> error: call m(<Limit>), with m 1. The constant is register 0.
+abbrev pub limited : Table
+limited = record { methods = (1, 1) ∷ []; constants = 0 ∷ []; statements = statement-of start error (call-label 1 (Same 0 ∷ [])) [] ∷ [] }
+
+-- start -> a: call m(*, *, *, *, X); a -> error: call n(x), with m 1 and n 2
+abbrev pub fifth : Table
+fifth = record {
+  methods = (1, 5) ∷ (2, 1) ∷ [];
+  constants = [];
+  statements = statement-of start 2 (call-label 1 (Any ∷ Any ∷ Any ∷ Any ∷ Write 0 ∷ [])) [] ∷ statement-of 2 error (call-label 2 (Same 0 ∷ [])) [] ∷ [];
+}
+
+-- start -> a: ret S := m; a -> error: call n(s), with m 1 and n 2; and the same with !s
+abbrev pub returned-same : Table
+returned-same = record { methods = (1, 0) ∷ (2, 1) ∷ []; constants = []; statements = statement-of start 2 (return-label (Write 0) 1) [] ∷ statement-of 2 error (call-label 2 (Same 0 ∷ [])) [] ∷ [] }
+
+abbrev pub returned-other : Table
+returned-other = record { methods = (1, 0) ∷ (2, 1) ∷ []; constants = []; statements = statement-of start 2 (return-label (Write 0) 1) [] ∷ statement-of 2 error (call-label 2 (Differs 0 ∷ [])) [] ∷ [] }
+
+-- start -> error: call m(); call n(), with m 1 and n 2
+abbrev pub joined : Table
+joined = record { methods = (1, 0) ∷ (2, 0) ∷ []; constants = []; statements = statement-of start error (call-label 1 []) (call-label 2 [] ∷ []) ∷ [] }
+
+-- start -> a: call m(X); a -> error: call n(X, x), with m 1 and n 2
+abbrev pub rewritten : Table
+rewritten = record { methods = (1, 1) ∷ (2, 2) ∷ []; constants = []; statements = statement-of start 2 (call-label 1 (Write 0 ∷ [])) [] ∷ statement-of 2 error (call-label 2 (Write 0 ∷ Same 0 ∷ [])) [] ∷ [] }
+
+-- SOURCES
+-- a fetch with no value, and then a midnight; and a source that ends in a refusal of a journal
+abbrev pub midnight : Event
+midnight = call-of 5 []
+
+abbrev pub odd-source : Source
+odd-source = record { waiting = call-of 3 [] ∷ midnight ∷ []; ending = End }
+
+abbrev pub cut : Refusal
+cut = record { layer = Journal; reason = Cut; place = 7 }
+
+abbrev pub cut-source : Source
+cut-source = record { waiting = midnight ∷ []; ending = Refused cut }
+
+abbrev pub with-sources : Ledger → List Source → Moment
+with-sources l W = record { ledger = l; sources = W }
+
+-- THE EXAMPLES
+pub record Examples : Type 0 where
+  -- a constant stands in its register from the start: another value does not break, the constant's does
+  pub constant-is-set : Only (made board 16384 [])
+      ((to-begin limited (number 7 ∷ []) 64, begun) ∷ (to-feed (call-of 1 (number 8 ∷ [])), still-running) ∷ (to-feed (call-of 1 (number 7 ∷ [])), found-broken 2) ∷ [])
+      (alone (broken-at (begun-over 16384 limited (number 7 ∷ []) 64) (so-far (call-of 1 (number 8 ∷ []) ∷ call-of 1 (number 7 ∷ []) ∷ [])) 2 (65 ∷ 1 ∷ [])))
+  -- the fifth parameter is written and read
+  pub fifth-parameter : Day 16384 fifth 64
+      ((to-feed (call-of 1 (number 1 ∷ number 2 ∷ number 3 ∷ number 4 ∷ number 5 ∷ [])), still-running) ∷ (to-feed (call-of 2 (number 4 ∷ [])), still-running) ∷
+      (to-feed (call-of 2 (number 5 ∷ [])), found-broken 3) ∷ [])
+      (broken-at (begun-over 16384 fifth [] 64) (so-far (call-of 1 (number 1 ∷ number 2 ∷ number 3 ∷ number 4 ∷ number 5 ∷ []) ∷ call-of 2 (number 4 ∷ []) ∷ call-of 2 (number 5 ∷ []) ∷ [])) 3 (1 ∷ 0 ∷ 2 ∷ []))
+  -- a return with no value leaves nothing, which is the same as no value that is given
+  pub void-is-not-same : Day 16384 returned-same 64
+      (all-fed (return-of 1 [] ∷ call-of 2 (number 5 ∷ []) ∷ []) still-running ++ ((to-close, says Kept None) ∷ []))
+      (turned (begun-over 16384 returned-same [] 64) Kept (closing (return-of 1 [] ∷ call-of 2 (number 5 ∷ []) ∷ [])))
+  pub void-differs : Day 16384 returned-other 64
+      ((to-feed (return-of 1 []), still-running) ∷ (to-feed (call-of 2 (number 5 ∷ [])), found-broken 2) ∷ [])
+      (broken-at (begun-over 16384 returned-other [] 64) (so-far (return-of 1 [] ∷ call-of 2 (number 5 ∷ []) ∷ [])) 2 (1 ∷ 2 ∷ []))
+  -- 30 by a draw: the event is gone, the ledger is as it was; then the next one, and the end
+  pub draw-of-other-arity : Only (made board 16384 (odd-source ∷ []))
+      ((to-begin stale [] 64, begun) ∷ (to-draw 0, refused-for OtherArity 0) ∷ (to-draw 0, still-running) ∷ (to-draw 0, no-event) ∷ (to-draw 0, no-event) ∷ (to-draw 1, no-source) ∷ [])
+      (with-sources (turned (begun-over 16384 stale [] 64) Running (so-far (midnight ∷ []))) (record { waiting = []; ending = End } ∷ []))
+  pub refused-draw-takes-one : Only (made board 16384 (odd-source ∷ []))
+      ((to-begin stale [] 64, begun) ∷ (to-draw 0, refused-for OtherArity 0) ∷ [])
+      (with-sources (begun-over 16384 stale [] 64) (record { waiting = midnight ∷ []; ending = End } ∷ []))
+  -- a source's refusal is passed on, at each draw
+  pub ending-is-passed-on : Only (made board 16384 (cut-source ∷ []))
+      ((to-begin stale [] 64, begun) ∷ (to-draw 0, still-running) ∷ (to-draw 0, refused cut) ∷ (to-draw 0, refused cut) ∷ [])
+      (with-sources (turned (begun-over 16384 stale [] 64) Running (so-far (midnight ∷ []))) (record { waiting = []; ending = Refused cut } ∷ []))
+  -- 20: not begun; a draw that the phase refuses leaves its source
+  pub not-begun : Only (made board 16384 (cut-source ∷ []))
+      ((to-feed midnight, refused-for NotBegun 0) ∷ (to-draw 0, refused-for NotBegun 0) ∷ (to-close, refused-for NotBegun 0) ∷ (ask-verdict, verdict-is Blank 0 None) ∷ [])
+      (with-sources (fresh board 16384) (cut-source ∷ []))
+  -- 21: begun already; 40: not broken, and the page stays
+  pub begun-already : Day 16384 stale 64
+      ((to-begin wait [] 64, refused-for BegunAlready 0) ∷ (ask-path (8 ∷ 9 ∷ []), unwritten (watch-refusal (of-watch NotBroken) 0) (8 ∷ 9 ∷ [])) ∷ [])
+      (begun-over 16384 stale [] 64)
+  -- 22: a cap of 0 or over 64; 23: another count of constants; the order is 22 before 23
+  pub bad-cap : Only (made board 16384 [])
+      ((to-begin stale [] 0, refused-for BadCap 0) ∷ (to-begin limited [] 65, refused-for BadCap 0) ∷ (to-begin limited [] 64, refused-for OtherConstants 0) ∷ (to-begin stale (nothing ∷ []) 1, refused-for OtherConstants 0) ∷ [])
+      (alone (fresh board 16384))
+  -- 24: a board one value short, or an empty book; a board for a cap of 1 has 104 values
+  pub board-is-short : Only (made 103 16384 []) ((to-begin stale [] 1, refused-for SmallBoard 0) ∷ []) (alone (fresh 103 16384))
+  pub board-is-enough : Only (made 104 1 []) ((to-begin stale [] 1, begun) ∷ []) (alone (began (fresh 104 1) stale [] 1))
+  pub book-is-empty : Only (made board 0 []) ((to-begin stale [] 1, refused-for SmallBoard 0) ∷ []) (alone (fresh board 0))
+  -- 31 once broken, for every call that could change anything; 41: a page too short stays; the run that is shown stays
+  pub once-broken : Only (made board 16384 (cut-source ∷ []))
+      ((to-begin stale [] 64, begun) ∷ (all-fed (take 3 applied) still-running ++ ((to-feed (call-of 4 (number 12 ∷ number 900 ∷ [])), found-broken 4) ∷ (to-feed midnight, refused-for IsBroken 4) ∷
+      (to-draw 0, refused-for IsBroken 4) ∷ (to-close, refused-for IsBroken 4) ∷ (to-begin stale [] 64, refused-for BegunAlready 4) ∷
+      (ask-path (8 ∷ 9 ∷ []), unwritten (watch-refusal (of-watch SmallPage) 4) (8 ∷ 9 ∷ [])) ∷ (ask-path (7 ∷ 8 ∷ 9 ∷ []), wrote 3 (1 ∷ 2 ∷ 3 ∷ [])) ∷ [])))
+      (with-sources (broken-at (begun-over 16384 stale [] 64) (so-far applied) 4 first-path) (cut-source ∷ []))
+  -- 34 once kept
+  pub once-kept : Only (made board 16384 (cut-source ∷ []))
+      ((to-begin stale [] 64, begun) ∷ (to-close, says Kept None) ∷ (to-feed midnight, refused-for IsKept 0) ∷ (to-draw 0, refused-for IsKept 0) ∷ (to-close, refused-for IsKept 0) ∷
+      (ask-path [], unwritten (watch-refusal (of-watch NotBroken) 0) []) ∷ [])
+      (with-sources (turned (begun-over 16384 stale [] 64) Kept (closing [])) (cut-source ∷ []))
+  -- 4 and 5 come before 30, and after the phase; the last id is 131,071; an undeclared method may have any count of values that is lawful
+  pub unlawful-events : Day 16384 stale 64
+      ((to-feed (record { id = 131072; values = replicate 6 nothing }), refused (watch-refusal WildId 0)) ∷ (to-feed (call-of 3 (replicate 6 nothing)), refused (watch-refusal TooManyValues 0)) ∷
+      (to-feed (return-of 3 (replicate 2 nothing)), refused (watch-refusal TooManyValues 0)) ∷ (to-feed (call-of 3 (replicate 2 nothing)), refused-for OtherArity 0) ∷
+      (to-feed (record { id = 131071; values = nothing ∷ [] }), still-running) ∷ (to-feed (call-of 9 (replicate 5 nothing)), still-running) ∷ [])
+      (turned (begun-over 16384 stale [] 64) Running (so-far (record { id = 131071; values = nothing ∷ [] } ∷ call-of 9 (replicate 5 nothing) ∷ [])))
+  -- the table that no text has filled keeps every list
+  pub empty-table-keeps : Day 16384 empty-table 1
+      ((to-feed midnight, still-running) ∷ (to-close, says Kept None) ∷ [])
+      (turned (begun-over 16384 empty-table [] 1) Kept (closing (midnight ∷ [])))
+
+-- READINGS THAT ARE EXCLUDED
+-- some run reaches `error`, of a list that has ended or of what has come so far
+abbrev pub Reaches-error : Table → List Event → Type 0
+Reaches-error P es = (p : ℕ) × Error-at P (registers-of (begun-over 16384 P [] 64)) (closing es) p
+
+abbrev pub Settled-error : Table → List Event → Type 0
+Settled-error P es = (p : ℕ) × Error-at P (registers-of (begun-over 16384 P [] 64)) (so-far es) p
+
+pub record Excluded : Type 0 where
+  -- Skipping as soon as nothing passes, while more may come: after g, p, r such a run would reach `error`, as it does once the list has ended; but z may
+  -- still come, and then no run does.
+  pub no-hasty-skip : Reaches-error wait gpr × (¬ Settled-error wait gpr) × (¬ Reaches-error wait gprz)
+  -- Reads that see their own event's writes: call n(X, x) reads the x that was written before.
+  pub reads-come-first : Reaches-error rewritten (call-of 1 (number 1 ∷ []) ∷ call-of 2 (number 2 ∷ number 1 ∷ []) ∷ []) × (¬ Reaches-error rewritten (call-of 1 (number 1 ∷ []) ∷ call-of 2 (number 2 ∷ number 2 ∷ []) ∷ []))
+  -- Passing over calls of methods that the property does not declare: joined labels match consecutive events.
+  pub undeclared-calls-count : Reaches-error joined (call-of 1 [] ∷ call-of 2 [] ∷ []) × (¬ Reaches-error joined (call-of 1 [] ∷ call-of 9 [] ∷ call-of 2 [] ∷ []))
