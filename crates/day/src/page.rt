@@ -10,14 +10,14 @@ use std::alloc::Global;
 
 // What is written so far, and where its memory comes from.
 #[derive(Drop)]
-pub struct Page {
+pub(crate) struct Page {
     heap: Global,
     bytes: Vec<u8>,
 }
 
 impl Page {
     // An empty page.
-    pub fn new(heap: Global) -> Page
+    pub(crate) fn new(heap: Global) -> Page
         ensures { λ r. ⌜ written r ≡ [] ⌝ }
     {
         Page {
@@ -27,21 +27,21 @@ impl Page {
     }
 
     // Writes some bytes.
-    pub fn write(&mut self, text: &[u8]) -> Result<(), AllocError>
+    pub(crate) fn write(&mut self, text: &[u8]) -> Result<(), AllocError>
         ensures { λ r. ⌜ Writes r (now (self .entry)) (now (text .entry)) (now (self .exit)) ⌝ }
     {
         self.bytes.extend_from_slice(text)
     }
 
     // Writes a word.
-    pub fn word(&mut self, word: &str) -> Result<(), AllocError>
+    pub(crate) fn word(&mut self, word: &str) -> Result<(), AllocError>
         ensures { λ r. ⌜ Writes r (now (self .entry)) (now (word .entry)) (now (self .exit)) ⌝ }
     {
         self.write(word.as_bytes())
     }
 
     // Writes a number in decimal.
-    pub fn number(&mut self, n: u64) -> Result<(), AllocError>
+    pub(crate) fn number(&mut self, n: u64) -> Result<(), AllocError>
         ensures { λ r. ⌜ Writes r (now (self .entry)) (decimal n) (now (self .exit)) ⌝ }
     {
         let digits = format!(self.heap, "{n}")?;
@@ -49,7 +49,7 @@ impl Page {
     }
 
     // Writes a space and then a number.
-    pub fn number_field(&mut self, n: u64) -> Result<(), AllocError>
+    pub(crate) fn number_field(&mut self, n: u64) -> Result<(), AllocError>
         ensures { λ r. ⌜ Writes r (now (self .entry)) (field (decimal n)) (now (self .exit)) ⌝ }
     {
         self.write(b" ")?;
@@ -57,7 +57,7 @@ impl Page {
     }
 
     // Writes a space and then a word.
-    pub fn field(&mut self, word: &str) -> Result<(), AllocError>
+    pub(crate) fn field(&mut self, word: &str) -> Result<(), AllocError>
         ensures { λ r. ⌜ Writes r (now (self .entry)) (field (now (word .entry))) (now (self .exit)) ⌝ }
     {
         self.write(b" ")?;
@@ -65,7 +65,7 @@ impl Page {
     }
 
     // Writes the line that tells a refusal.
-    pub fn refusal(&mut self, refusal: &Refusal) -> Result<(), AllocError>
+    pub(crate) fn refusal(&mut self, refusal: &Refusal) -> Result<(), AllocError>
         ensures { λ r. ⌜ Writes r (now (self .entry)) (refusal-line (now (refusal .entry))) (now (self .exit)) ⌝ }
     {
         self.write(b"refused")?;
@@ -76,7 +76,7 @@ impl Page {
     }
 
     // All that was written.
-    pub fn into_bytes(self) -> Vec<u8>
+    pub(crate) fn into_bytes(self) -> Vec<u8>
         ensures { λ r. ⌜ vec-items r ≡ written self ⌝ }
     {
         let Page { heap: _, bytes } = self;

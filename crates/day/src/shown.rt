@@ -15,7 +15,7 @@ use kinds::numbers::NumbersKind;
 use std::alloc::AllocError;
 
 // A kind whose name and values can be printed.
-pub trait Shown: Kind {
+pub(crate) trait Shown: Kind {
     // The name of the kind.
     ghost title: { List ℕ };
 
@@ -31,7 +31,7 @@ pub trait Shown: Kind {
         ensures { λ r. ⌜ Writes r (now (page .entry)) (shown (now (value .entry))) (now (page .exit)) ⌝ };
 }
 
-pub impl Shown for Numbers as NumbersShown {
+pub(crate) impl Shown for Numbers as NumbersShown {
     ghost title = { codes "numbers" };
 
     ghost shown = { number-shown };
@@ -48,7 +48,7 @@ pub impl Shown for Numbers as NumbersShown {
     }
 }
 
-pub impl Shown for Labels as LabelsShown {
+pub(crate) impl Shown for Labels as LabelsShown {
     ghost title = { codes "labels" };
 
     ghost shown = { spelling };

@@ -2,6 +2,7 @@
 ghost use mathlib.Core.Path.{_≡_};
 ghost use mathlib.Core.Bool.{true};
 ghost use Prim.Native.Nat.{ℕ, _≤_};
+ghost use lib.Dec.{eqb};
 ghost use lib.ListN.{length};
 ghost use Rattle.std.specs.Orderings.{Decides};
 ghost use Rattle.std.specs.Text.{lower};
@@ -105,13 +106,20 @@ pub fn read_label(bytes: &[u8]) -> Result<(Label, usize), Fault>
     read_text(bytes)
 }
 
+// Whether a byte stands behind a label's text.
+fn is_padding(b: u8) -> bool
+    ensures { λ r. ⌜ r ≡ eqb b 0 ⌝ }
+{
+    b == 0
+}
+
 impl Label {
     // The text of a label, as it was written.
     pub fn text(&self) -> &[u8]
         ensures { λ r. ⌜ now r ≡ spelling (now (self .entry)) ⌝ }
     {
         let mut end = 16;
-        while end > 0 && self.text[end - 1] == 0 {
+        while end > 0 && is_padding(self.text[end - 1]) {
             end -= 1;
         }
         &self.text[0..end]

@@ -7,8 +7,10 @@ use Prim.Native.Nat.{ℕ, zero, suc, _+_, _-_, _≤_, _<_}
 use native.Mathlib.Omega.{arith}
 use lib.ListN.{length, take, getD, replicate}
 use Rattle.std.proofs.shelf.Lists.{getD-take, getD-past, getD-default, getD-append-left, getD-append-right, getD-replicate, length-take, length-replicate}
-use Rattle.std.proofs.shelf.Tests.{cases-lt}
-use Rattle.sources.specs.Events.{filled}
+use Rattle.std.proofs.shelf.Tests.{cases-lt, ne-eqb}
+use Rattle.std.specs.declared.option.Option.{Option}
+use Rattle.std.specs.declared.option.Option.the-variants.{Some, None}
+use Rattle.sources.specs.Events.{filled, index-at}
 
 module _ {V : Type 0} (nothing : V) where
   all-nothing : (m k : ℕ) → getD (replicate m nothing) k nothing ≡ nothing
@@ -31,6 +33,21 @@ module _ {V : Type 0} (nothing : V) where
   pub past-front : (vs : List V) (n i : ℕ) → n ≤ i → nothing ≡ getD (take n vs) i nothing
   past-front vs n i h = let l = length-take n vs in sym (getD-past (take n vs) i nothing (omega arith))
 
-  pub at-later : (x : V) (vs : List V) (i : ℕ) → (i ≡ 0 → ⊥) → getD vs (i - 1) nothing ≡ getD (x ∷ vs) i nothing
-  at-later x vs zero h = absurd (h refl)
-  at-later x vs (suc i) h = let e : suc i - 1 ≡ i = omega arith in ap (λ k. getD vs k nothing) e
+  -- the value that stands at a place
+  pub at-index : (r : Bool) (vs : List V) (p i : ℕ) → index-at r p ≡ Some i → getD vs i nothing ≡ getD (cond r (filled nothing 6 vs) (nothing ∷ filled nothing 5 vs)) p nothing
+  at-index true vs p i e = let same : p ≡ i = cc in ap (λ k. getD vs k nothing) (sym same) ∙ at-filled 6 vs p
+  at-index false vs zero i e = let z : _≡_ {A = ℕ} 0 1 = cc in absurd (omega arith)
+  at-index false vs (suc p) i e =
+      let some : _≡_ {A = Option ℕ} (Some (suc p - 1)) (Some i) = rw (ne-eqb (suc p) 0 (λ z. omega arith)) at e in
+      let same : suc p - 1 ≡ i = cc in
+      let back : i ≡ p = omega arith in
+      ap (λ k. getD vs k nothing) back ∙ at-filled 5 vs p
+
+  -- no value stands there
+  pub no-index : (r : Bool) (vs : List V) (p : ℕ) → index-at r p ≡ None → nothing ≡ getD (cond r (filled nothing 6 vs) (nothing ∷ filled nothing 5 vs)) p nothing
+  no-index true vs p e = let z : _≡_ {A = ℕ} 0 1 = cc in absurd (omega arith)
+  no-index false vs zero e = refl
+  no-index false vs (suc p) e =
+      let some : _≡_ {A = Option ℕ} (Some (suc p - 1)) None = rw (ne-eqb (suc p) 0 (λ z. omega arith)) at e in
+      let z : _≡_ {A = ℕ} 0 1 = cc in
+      absurd (omega arith)

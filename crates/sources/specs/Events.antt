@@ -4,6 +4,8 @@ use mathlib.Core.List.{List, _∷_, _++_}
 use Prim.Native.Nat.{ℕ, _≤_, _-_, _/_, _%_}
 use lib.Dec.{eqb}
 use lib.ListN.{length, replicate}
+use Rattle.std.specs.declared.option.Option.{Option}
+use Rattle.std.specs.declared.option.Option.the-variants.{Some, None}
 
 -- An event as clauses speak of it: an id, and the values that were given, in order.
 pub record Happening (V : Type 0) : Type 0 where
@@ -36,3 +38,7 @@ filled nothing n vs = vs ++ replicate (n - length vs) nothing
 -- The six places: 0 has the returned value, 1 to 5 the parameters.
 abbrev pub places : {V : Type 0} → V → Happening V → List V
 places nothing h = cond (is-return (h .id)) (filled nothing 6 (h .values)) (nothing ∷ filled nothing 5 (h .values))
+
+-- Which value stands at a place: a return has its value at 0, and a call its first at 1.
+abbrev pub index-at : Bool → ℕ → Option ℕ
+index-at returns place = cond returns (Some place) (cond (eqb place 0) None (Some (place - 1)))

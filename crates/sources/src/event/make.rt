@@ -3,7 +3,7 @@ ghost use mathlib.Core.Path.{_≡_};
 ghost use mathlib.Core.List.{[], _∷_, _++_};
 ghost use Prim.Native.Nat.{_+_, _/_, _≤_, _<_};
 ghost use lib.ListN.{getD};
-ghost use Rattle.sources.specs.Events.{is-return, most, places};
+ghost use Rattle.sources.specs.Events.{index-at, is-return, most, places};
 ghost use Rattle.sources.specs.Sayings.{Judged, says};
 use crate::event::Event;
 use kinds::refusal::Reason;
@@ -67,7 +67,8 @@ impl<V: Copy> Event<V> {
     pub fn id(&self) -> u32
         ensures { λ r. ⌜ r ≡ says (now (self .entry)) .id ⌝ }
     {
-        self.id
+        let Event { id, .. } = self;
+        *id
     }
 
     // The method that is called or returns.
@@ -93,15 +94,12 @@ impl<V: Copy> Event<V> {
     }
 
     // What stands at one of the six places: 0 has the returned value, 1 to 5 the parameters; `nothing` where none was given.
-    pub fn place(&self, nothing: V, i: usize) -> V
-        ensures { λ r. ⌜ r ≡ getD (places nothing (says (now (self .entry)))) i nothing ⌝ }
+    pub fn place(&self, nothing: V, place: usize) -> V
+        ensures { λ r. ⌜ r ≡ getD (places nothing (says (now (self .entry)))) place nothing ⌝ }
     {
-        if self.id % 2 == 1 {
-            self.value(nothing, i)
-        } else if i == 0 {
-            nothing
-        } else {
-            self.value(nothing, i - 1)
+        match index_at(self.is_return(), place) {
+            Some(i) => self.value(nothing, i),
+            None => nothing,
         }
     }
 
@@ -114,5 +112,18 @@ impl<V: Copy> Event<V> {
         } else {
             nothing
         }
+    }
+}
+
+// Which value stands at a place: a return has its value at 0, and a call its first at 1.
+fn index_at(is_return: bool, place: usize) -> Option<usize>
+    ensures { λ r. ⌜ r ≡ index-at «is_return» place ⌝ }
+{
+    if is_return {
+        Some(place)
+    } else if place == 0 {
+        None
+    } else {
+        Some(place - 1)
     }
 }

@@ -143,7 +143,8 @@ impl<'a, K: Kind> Journal<'a, K> {
     pub fn place(&self) -> usize
         ensures { λ r. ⌜ r ≡ now (self .entry) .place .at ⌝ }
     {
-        self.place.at
+        let Place { at } = self.place;
+        at
     }
 
     // The record at the reader's place; one that is refused leaves the reader at its first byte.
