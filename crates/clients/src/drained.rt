@@ -8,7 +8,7 @@ ghost use Rattle.kinds.specs.Numbers.{number-value};
 ghost use Rattle.kinds.specs.declared.refusal.Ending.the-variants.{End};
 ghost use Rattle.mailbox.specs.Mail.{waits};
 ghost use Rattle.narrow.specs.Narrowing.{only};
-ghost use Rattle.sources.specs.Format.{means};
+ghost use Rattle.sources.specs.Opening.{ahead};
 ghost use Rattle.sources.specs.Sayings.{says};
 use kinds::label::Label;
 use kinds::labels::Labels;
@@ -45,7 +45,7 @@ pub fn drain_twice(
     some: &[u16],
     others: &[u16],
 ) -> Result<Drained<Option<u64>>, AllocError>
-    ensures { λ r. ⌜ made r (λ d. (map says (vec-items (d .events)) ≡ only (take 32 (now (others .entry))) (only (take 32 (now (some .entry))) (means number-value (now (journal .entry .bytes)) (journal .entry .place .at) .waits))) × (d .ending ≡ means number-value (now (journal .entry .bytes)) (journal .entry .place .at) .ends)) ⌝ }
+    ensures { λ r. ⌜ made r (λ d. (map says (vec-items (d .events)) ≡ only (take 32 (now (others .entry))) (only (take 32 (now (some .entry))) (ahead number-value (journal .entry) .waits))) × (d .ending ≡ ahead number-value (journal .entry) .ends)) ⌝ }
 {
     let mut narrow = Narrow::new(Narrow::new(journal, some), others);
     drain::<Numbers, Narrow<Narrow<Journal<Numbers>>>>(heap, &mut narrow)

@@ -11,7 +11,7 @@ use Rattle.std.specs.declared.result.Result.{Result}
 use Rattle.kinds.specs.declared.refusal.Fault.{Fault}
 use Rattle.kinds.specs.declared.refusal.Reason.the-variants.{Cut, OtherHead, TooLong}
 use Rattle.kinds.specs.declared.refusal.Refusal.{Refusal}
-use Rattle.sources.specs.Format.{means, refuses}
+use Rattle.sources.specs.Format.{Meaning, means, refuses}
 use Rattle.sources.specs.Records.{Recorded, Short-records}
 use Rattle.sources.specs.declared.journal.Journal.{Journal}
 
@@ -29,6 +29,10 @@ head-cut code (version ∷ kind ∷ _) = head-differs version kind code
 -- Why a journal is not opened under a kind's number: 7 where it is too long, then 1 where its head is cut, then 3 where its head differs.
 abbrev pub head-refusal : ℕ → List ℕ → Option Refusal
 head-refusal code bytes = cond (ltb 65536 (length bytes)) (Some (refuses TooLong 0)) (head-cut code bytes)
+
+-- What a reader has before it: the events that wait and the ending.
+abbrev pub ahead : {V K : Type 0} → (List ℕ → Result (V × ℕ) Fault) → Journal K → Meaning V
+ahead reads j = means reads (j .bytes .now) (j .place .at)
 
 -- A reader of these bytes that stands behind an accepted head, so that all that they record waits in it.
 pub record Opened {V K : Type 0} (reads : List ℕ → Result (V × ℕ) Fault) (longest code : ℕ) (bytes : List ℕ) (j : Journal K) : Type 0 where

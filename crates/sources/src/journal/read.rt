@@ -6,9 +6,9 @@ ghost use lib.ListN.{length};
 ghost use Rattle.std.specs.Results.{Cases};
 ghost use Rattle.kinds.specs.Numbers.{number-read};
 ghost use Rattle.sources.specs.Events.{most};
-ghost use Rattle.sources.specs.Format.{at, event-at, means, moved, record-at};
+ghost use Rattle.sources.specs.Format.{at, event-at, moved, record-at};
 ghost use Rattle.sources.specs.Lawfulness.{means-lawful};
-ghost use Rattle.sources.specs.Opening.{Opened, head-differs, head-refusal};
+ghost use Rattle.sources.specs.Opening.{Opened, ahead, head-differs, head-refusal};
 ghost use Rattle.sources.specs.Sources.{Next};
 ghost use Rattle.sources.specs.Steps.{event-told, told};
 ghost use Rattle.std.specs.declared.option.Option.the-variants.{Some, None};
@@ -176,13 +176,18 @@ impl<'a, K: Kind> Journal<'a, K> {
 }
 
 pub impl<K: Kind> Source<K> for Journal<'_, K> as JournalSource {
-    ghost waiting = { λ j. means (K·Kind .reads) (seen (j .bytes)) (j .place .at) .waits };
+    ghost waiting = { λ j. ahead (K·Kind .reads) j .waits };
 
-    ghost ending = { λ j. means (K·Kind .reads) (seen (j .bytes)) (j .place .at) .ends };
+    ghost ending = { λ j. ahead (K·Kind .reads) j .ends };
 
     ghost lawful = { λ j. means-lawful (K·Kind .reads) (seen (j .bytes)) (j .place .at) };
 
-    fn next(&mut self) -> Result<Option<Event<K::Value>>, Refusal> {
+    // A record that is refused leaves the reader at its first byte.
+    fn next(&mut self) -> Result<Option<Event<K::Value>>, Refusal>
+        ensures hands { λ r. ⌜ Next (ahead (K·Kind .reads) (now (self .entry)) .waits) (ahead (K·Kind .reads) (now (self .entry)) .ends) r (ahead (K·Kind .reads) (now (self .exit)) .waits) (ahead (K·Kind .reads) (now (self .exit)) .ends) ⌝ }
+        ensures back { λ r. ⌜ Cases r (λ _. Unit {0}) (λ _. now (self .exit) .place .at ≡ now (self .entry) .place .at) ⌝ }
+        ensures same { λ _. ⌜ now (now (self .exit) .bytes) ≡ now (now (self .entry) .bytes) ⌝ }
+    {
         if self.place.at >= self.bytes.len() {
             return Ok(None);
         }
