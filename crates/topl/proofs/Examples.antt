@@ -13,7 +13,7 @@ use Rattle.topl.specs.Deciding.{any-error}
 use Rattle.topl.specs.Ledger.{rule}
 use Rattle.topl.specs.History.{made}
 use Rattle.topl.specs.Days.{applied, begun-over, board, first-path, gpr, gprz, number, stale, wait}
-use Rattle.topl.specs.Examples.{Examples, Excluded, cut-source, fifth, joined, limited, odd-source, returned-other, rewritten}
+use Rattle.topl.specs.Examples.{Examples, Excluded, at-once, cut-source, fifth, joined, limited, odd-source, returned-other, rewritten}
 use Rattle.topl.proofs.Enumerate.{enumerates}
 use Rattle.topl.proofs.Persist.{reach-bound}
 use Rattle.topl.proofs.Deciding.{any-error-sound, any-error-complete}
@@ -39,6 +39,10 @@ examples = record {
       (tt also tt also tt also tt also only-run (begun-over 16384 stale [] 64) (so-far applied) 4 first-path refl also tt also tt also tt also tt also tt also tt also tt);
   once-kept = only-so (made board 16384 (cut-source ∷ [])) _ [] (tt also tt also tt also tt also tt also tt also tt);
   unlawful-events = only-so (made board 16384 []) _ [] (tt also tt also tt also tt also tt also tt also tt also tt);
+  error-comes-first = only-so (made board 1 []) _ (1 ∷ []) (tt also only-run (begun-over 1 at-once [] 1) _ 1 _ refl also tt);
+  lowest-position-decides = only-so (made board 16384 []) _ [] (tt also tt also tt also tt also tt also tt);
+  need-counts-what-was = only-so (made board 5 []) _ [] (tt also tt also tt also tt also tt also tt);
+  book-of-six-waits = only-so (made board 6 []) _ (1 ∷ 0 ∷ 3 ∷ []) (tt also tt also tt also tt also only-run (begun-over 6 wait [] 2) _ 3 _ refl also tt);
   empty-table-keeps = only-so (made board 16384 []) _ [] (tt also tt also tt also tt);
 }
 

@@ -45,6 +45,14 @@ joined = record { methods = (1, 0) ∷ (2, 0) ∷ []; constants = []; statements
 abbrev pub rewritten : Table
 rewritten = record { methods = (1, 1) ∷ (2, 2) ∷ []; constants = []; statements = statement-of start 2 (call-label 1 (Write 0 ∷ [])) [] ∷ statement-of 2 error (call-label 2 (Write 0 ∷ Same 0 ∷ [])) [] ∷ [] }
 
+-- start -> error: call m(), with m 1
+abbrev pub at-once : Table
+at-once = record { methods = (1, 0) ∷ []; constants = []; statements = statement-of start error (call-label 1 []) [] ∷ [] }
+
+-- property Wait with one statement more, start -> b: call p()
+abbrev pub wait-more : Table
+wait-more = record { methods = wait .methods; constants = []; statements = wait .statements ++ (statement-of start 4 (call-label 2 []) [] ∷ []) }
+
 -- SOURCES
 -- a fetch with no value, and then a midnight; and a source that ends in a refusal of a journal
 abbrev pub midnight : Event
@@ -124,6 +132,21 @@ pub record Examples : Type 0 where
       (to-feed (return-of 3 (replicate 2 nothing)), refused (watch-refusal TooManyValues 0)) ∷ (to-feed (call-of 3 (replicate 2 nothing)), refused-for OtherArity 0) ∷
       (to-feed (record { id = 131071; values = nothing ∷ [] }), still-running) ∷ (to-feed (call-of 9 (replicate 5 nothing)), still-running) ∷ [])
       (turned (begun-over 16384 stale [] 64) Running (so-far (record { id = 131071; values = nothing ∷ [] } ∷ call-of 9 (replicate 5 nothing) ∷ [])))
+  -- at one position `error` comes before the cap, and before the book
+  pub error-comes-first : Day 1 at-once 1
+      ((to-feed (call-of 1 []), found-broken 1) ∷ [])
+      (broken-at (begun-over 1 at-once [] 1) (so-far (call-of 1 [] ∷ [])) 1 (1 ∷ []))
+  -- the lowest position decides: at the close position 2 has three configurations, and position 3 reaches `error`
+  pub lowest-position-decides : Day 16384 wait-more 2
+      (all-fed gpr still-running ++ ((to-close, refused-for IsSpilled 3) ∷ []))
+      (turned (begun-over 16384 wait-more [] 2) Spilled (so-far gpr))
+  -- the need counts what was reached at later positions before: at the close it is 6 at position 2, before `error` is reached at position 3
+  pub need-counts-what-was : Day 5 wait 2
+      (all-fed gpr still-running ++ ((to-close, refused-for IsFull 3) ∷ []))
+      (turned (begun-over 5 wait [] 2) Full (so-far gpr))
+  pub book-of-six-waits : Day 6 wait 2
+      (all-fed gpr still-running ++ ((to-close, found-broken 3) ∷ []))
+      (broken-at (begun-over 6 wait [] 2) (closing gpr) 3 (1 ∷ 0 ∷ 3 ∷ []))
   -- the table that no text has filled keeps every list
   pub empty-table-keeps : Day 16384 empty-table 1
       ((to-feed midnight, still-running) ∷ (to-close, says Kept None) ∷ [])
