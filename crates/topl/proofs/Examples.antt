@@ -7,13 +7,15 @@ use mathlib.Core.Bool.{Bool, true, false, cond, true≢false, false≢true}
 use mathlib.Core.List.{List, [], _∷_, _++_}
 use lib.ListN.{length}
 use Rattle.std.proofs.shelf.Tests.{cases-lt}
-use Rattle.topl.specs.Table.{Table}
+use Rattle.topl.specs.Table.{Event, Table, is-lawful}
 use Rattle.topl.specs.Runs.{Error-at, Registers, World, closing, reached, runs, so-far}
 use Rattle.topl.specs.Deciding.{any-error}
-use Rattle.topl.specs.Ledger.{rule}
+use Rattle.topl.specs.Ledger.{registers-of, rule}
 use Rattle.topl.specs.History.{made}
 use Rattle.topl.specs.Days.{applied, begun-over, board, first-path, gpr, gprz, number, stale, wait}
-use Rattle.topl.specs.Examples.{Examples, Excluded, at-once, cut-source, fifth, joined, limited, odd-source, returned-other, rewritten}
+use Rattle.topl.specs.Examples.{Accepted, Examples, Excluded, at-once, consecutive, cut-source, fifth, interrupted, joined, limited, odd-source, reads-earlier, reads-itself, returned-other, rewritten}
+use Rattle.topl.proofs.Lawful.{tested}
+use Rattle.topl.proofs.Language.{recognizes}
 use Rattle.topl.proofs.Enumerate.{enumerates}
 use Rattle.topl.proofs.Persist.{reach-bound}
 use Rattle.topl.proofs.Deciding.{any-error-sound, any-error-complete}
@@ -22,6 +24,7 @@ use Rattle.topl.proofs.Sole.{only-run, only-so, _also_}
 pub examples : Examples
 unfolding rule runs reached
 examples = record {
+  all-lawful = refl;
   constant-is-set = only-so (made board 16384 []) _ (65 ∷ 1 ∷ []) (tt also tt also only-run (begun-over 16384 limited (number 7 ∷ []) 64) _ 2 _ refl also tt);
   fifth-parameter = only-so (made board 16384 []) _ (1 ∷ 0 ∷ 2 ∷ []) (tt also tt also tt also only-run (begun-over 16384 fifth [] 64) _ 3 _ refl also tt);
   void-is-not-same = only-so (made board 16384 []) _ [] (tt also tt also tt also tt also tt);
@@ -74,10 +77,19 @@ none-at P k w (suc n) e p l x = go (λ i m. none-at P k w n i p m x) (any-error 
 none-anywhere : (P : Table) (k : Registers) (w : World) → any-at P k w (suc (length (w .events))) ≡ false → ¬ ((p : ℕ) × Error-at P k w p)
 none-anywhere P k w e (p, x) = let b = reach-bound (x .2 .1) in none-at P k w (suc (length (w .events))) e p (omega arith) x
 
+-- of a lawful table, the language by computing
+accepted : (P : Table) (es : List Event) → is-lawful P ≡ true → any-at P (registers-of (begun-over 16384 P [] 64)) (closing es) (suc (length es)) ≡ true → Accepted P es
+accepted P es l e =
+    recognizes P (registers-of (begun-over 16384 P [] 64)) es (tested P .0 l) .1 (found-at P (registers-of (begun-over 16384 P [] 64)) (closing es) (suc (length es)) e)
+
+not-accepted : (P : Table) (es : List Event) → is-lawful P ≡ true → any-at P (registers-of (begun-over 16384 P [] 64)) (closing es) (suc (length es)) ≡ false → ¬ Accepted P es
+not-accepted P es l e x =
+    none-anywhere P (registers-of (begun-over 16384 P [] 64)) (closing es) e (recognizes P (registers-of (begun-over 16384 P [] 64)) es (tested P .0 l) .0 x)
+
 pub excluded : Excluded
 unfolding runs reached
 excluded = record {
-  no-hasty-skip = (found-at wait _ (closing gpr) 4 refl, none-anywhere wait _ (so-far gpr) refl, none-anywhere wait _ (closing gprz) refl);
-  reads-come-first = (found-at rewritten _ (closing _) 3 refl, none-anywhere rewritten _ (closing _) refl);
-  undeclared-calls-count = (found-at joined _ (closing _) 3 refl, none-anywhere joined _ (closing _) refl);
+  no-hasty-skip = (accepted wait gpr refl refl, none-anywhere wait _ (so-far gpr) refl, not-accepted wait gprz refl refl);
+  reads-come-first = (accepted rewritten reads-earlier refl refl, not-accepted rewritten reads-itself refl refl);
+  undeclared-calls-count = (accepted joined consecutive refl refl, not-accepted joined interrupted refl refl);
 }

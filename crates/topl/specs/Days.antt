@@ -16,7 +16,7 @@ use Rattle.kinds.specs.Numbers.{number-class}
 use Rattle.kinds.specs.Labels.{label-of, label-class}
 use Rattle.topl.specs.declared.Told.{Told}
 use Rattle.topl.specs.Lists.{Class, nothing}
-use Rattle.topl.specs.Table.{Event, call-id, return-id, Any, Write, Same, Differs, call-label, return-label, whole-label, statement-of, Table, start, error}
+use Rattle.topl.specs.Table.{Event, call-id, return-id, Any, Write, Same, Differs, call-label, return-label, whole-label, statement-of, Table, start, error, Lawful}
 use Rattle.topl.specs.Runs.{so-far, closing, Error-at}
 use Rattle.topl.specs.Ledger.{Ledger, fresh, began, turned, broken-at, Answer, begun, no-event, no-source, says, verdict-is, wrote, unwritten, refused, Source, registers-of}
 use Rattle.topl.specs.History.{Call, to-begin, to-feed, to-draw, to-close, ask-verdict, ask-path, Moment, made, Log, calls-of, History, In-language}
@@ -126,15 +126,21 @@ Tells-of t l = (t .phase ≡ l .phase) × (t .judged ≡ length (l .judged)) × 
 
 -- THE WORKED DAYS
 pub record Worked : Type 0 where
+  -- both properties are lawful
+  pub stale-lawful : Lawful stale
+  pub wait-lawful : Lawful wait
   -- the applied value is stale: broken at the fourth event
   pub stale-breaks : Day 16384 stale 64
       (all-fed (take 3 applied) still-running ++ ((to-feed (call-of 4 (number 12 ∷ number 900 ∷ [])), found-broken 4) ∷ (ask-verdict, verdict-is Broken 4 (Some 4)) ∷
       (ask-path (0 ∷ 0 ∷ 0 ∷ 9 ∷ []), wrote 3 (1 ∷ 2 ∷ 3 ∷ 9 ∷ [])) ∷ []))
       stale-end
+  -- and so is every longer list, by the language of the property's automaton
+  pub stale-in-language : (X : List Event) → In-language stale-end (applied ++ X)
   -- another value is applied: kept
   pub other-value-kept : Day 16384 stale 64
       (all-fed applied-other still-running ++ ((to-close, says Kept None) ∷ (ask-verdict, verdict-is Kept 4 None) ∷ []))
       (turned (begun-over 16384 stale [] 64) Kept (closing applied-other))
+  pub other-value-not-in-language : ¬ In-language stale-end applied-other
   -- a cap of 1: the second event spills, and is not judged; the watch stays spilled
   pub cap-of-one-spills : Day 16384 stale 1
       (all-fed (take 1 applied) still-running ++ ((to-feed (return-of 3 (number 900 ∷ [])), refused-for IsSpilled 1) ∷ (ask-verdict, verdict-is Spilled 1 None) ∷

@@ -10,8 +10,9 @@ use Rattle.kinds.specs.declared.refusal.Reason.the-variants.{Cut, WildId, TooMa
 use Rattle.kinds.specs.declared.watch_reason.WatchReason.the-variants.{NotBegun, BegunAlready, BadCap, OtherConstants, SmallBoard, OtherArity, IsBroken, IsSpilled, IsFull, IsKept, NotBroken, SmallPage}
 use Rattle.kinds.specs.declared.refusal.Refusal.{Refusal}
 use Rattle.kinds.specs.declared.refusal.Ending.the-variants.{End, Refused}
-use Rattle.topl.specs.Lists.{Class, nothing}
-use Rattle.topl.specs.Table.{Event, Any, Write, Same, Differs, call-label, return-label, whole-label, any-label, statement-of, Table, empty-table, start, error}
+use mathlib.Core.Bool.{true}
+use Rattle.topl.specs.Lists.{Class, nothing, every}
+use Rattle.topl.specs.Table.{Event, Any, Write, Same, Differs, call-label, return-label, whole-label, any-label, statement-of, Table, empty-table, start, error, is-lawful}
 use Rattle.topl.specs.Runs.{so-far, closing, Error-at}
 use Rattle.topl.specs.Ledger.{Ledger, fresh, began, turned, broken-at, Answer, begun, no-event, no-source, says, verdict-is, wrote, unwritten, refused, Source, registers-of}
 use Rattle.topl.specs.History.{Call, to-begin, to-feed, to-draw, to-close, ask-verdict, ask-path, Moment, made, Log, History, In-language}
@@ -72,6 +73,8 @@ with-sources l W = record { ledger = l; sources = W }
 
 -- THE EXAMPLES
 pub record Examples : Type 0 where
+  -- all these properties are lawful, and so is the table that no text has filled
+  pub all-lawful : every is-lawful (limited ∷ fifth ∷ returned-same ∷ returned-other ∷ joined ∷ rewritten ∷ at-once ∷ wait-more ∷ empty-table ∷ []) ≡ true
   -- a constant stands in its register from the start: another value does not break, the constant's does
   pub constant-is-set : Only (made board 16384 [])
       ((to-begin limited (number 7 ∷ []) 64, begun) ∷ (to-feed (call-of 1 (number 8 ∷ [])), still-running) ∷ (to-feed (call-of 1 (number 7 ∷ [])), found-broken 2) ∷ [])
@@ -153,18 +156,33 @@ pub record Examples : Type 0 where
       (turned (begun-over 16384 empty-table [] 1) Kept (closing (midnight ∷ [])))
 
 -- READINGS THAT ARE EXCLUDED
--- some run reaches `error`, of a list that has ended or of what has come so far
-abbrev pub Reaches-error : Table → List Event → Type 0
-Reaches-error P es = (p : ℕ) × Error-at P (registers-of (begun-over 16384 P [] 64)) (closing es) p
+-- the list is in the language of the property's automaton
+abbrev pub Accepted : Table → List Event → Type 0
+Accepted P es = In-language (begun-over 16384 P [] 64) es
 
+-- some settled run of what has come so far reaches `error`
 abbrev pub Settled-error : Table → List Event → Type 0
 Settled-error P es = (p : ℕ) × Error-at P (registers-of (begun-over 16384 P [] 64)) (so-far es) p
+
+-- m(1), and then n(2, 1), whose second value is what m wrote; or n(2, 2), whose second value is what n writes itself
+abbrev pub reads-earlier : List Event
+reads-earlier = call-of 1 (number 1 ∷ []) ∷ call-of 2 (number 2 ∷ number 1 ∷ []) ∷ []
+
+abbrev pub reads-itself : List Event
+reads-itself = call-of 1 (number 1 ∷ []) ∷ call-of 2 (number 2 ∷ number 2 ∷ []) ∷ []
+
+-- m and n, and the same with a call of an undeclared method between them
+abbrev pub consecutive : List Event
+consecutive = call-of 1 [] ∷ call-of 2 [] ∷ []
+
+abbrev pub interrupted : List Event
+interrupted = call-of 1 [] ∷ call-of 9 [] ∷ call-of 2 [] ∷ []
 
 pub record Excluded : Type 0 where
   -- Skipping as soon as nothing passes, while more may come: after g, p, r such a run would reach `error`, as it does once the list has ended; but z may
   -- still come, and then no run does.
-  pub no-hasty-skip : Reaches-error wait gpr × (¬ Settled-error wait gpr) × (¬ Reaches-error wait gprz)
+  pub no-hasty-skip : Accepted wait gpr × (¬ Settled-error wait gpr) × (¬ Accepted wait gprz)
   -- Reads that see their own event's writes: call n(X, x) reads the x that was written before.
-  pub reads-come-first : Reaches-error rewritten (call-of 1 (number 1 ∷ []) ∷ call-of 2 (number 2 ∷ number 1 ∷ []) ∷ []) × (¬ Reaches-error rewritten (call-of 1 (number 1 ∷ []) ∷ call-of 2 (number 2 ∷ number 2 ∷ []) ∷ []))
+  pub reads-come-first : Accepted rewritten reads-earlier × (¬ Accepted rewritten reads-itself)
   -- Passing over calls of methods that the property does not declare: joined labels match consecutive events.
-  pub undeclared-calls-count : Reaches-error joined (call-of 1 [] ∷ call-of 2 [] ∷ []) × (¬ Reaches-error joined (call-of 1 [] ∷ call-of 9 [] ∷ call-of 2 [] ∷ []))
+  pub undeclared-calls-count : Accepted joined consecutive × (¬ Accepted joined interrupted)
