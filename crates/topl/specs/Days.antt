@@ -30,15 +30,19 @@ Only m h n = History m h n × ((h′ : Log) (n′ : Moment) → calls-of h′ �
 abbrev pub number : ℕ → Class
 number n = number-class (Some n)
 
+-- a call of the method m with these classes
 abbrev pub call-of : ℕ → List Class → Event
 call-of m vs = record { id = call-id m; values = vs }
 
+-- a return of the method m with these
 abbrev pub return-of : ℕ → List Class → Event
 return-of m vs = record { id = return-id m; values = vs }
 
+-- the watch runs on
 abbrev pub still-running : Answer
 still-running = says Running None
 
+-- broken at p
 abbrev pub found-broken : ℕ → Answer
 found-broken p = says Broken (Some p)
 
@@ -46,6 +50,7 @@ found-broken p = says Broken (Some p)
 abbrev pub watch-refusal : Reason → ℕ → Refusal
 watch-refusal n place = record { layer = Watch; reason = n; place = place }
 
+-- the answer that it is
 abbrev pub refused-for : WatchReason → ℕ → Answer
 refused-for n place = refused (watch-refusal (of-watch n) place)
 
@@ -61,6 +66,7 @@ board = 2624
 abbrev pub begun-over : ℕ → Table → List Class → ℕ → Ledger
 begun-over book P ks cap = began (fresh board book) P ks cap
 
+-- a watch with this ledger, and no source
 abbrev pub alone : Ledger → Moment
 alone l = record { ledger = l; sources = [] }
 
@@ -83,9 +89,11 @@ stale = record {
 abbrev pub stale-day : Class → Class → Class → Class → List Event
 stale-day f s f′ s′ = call-of 3 (f ∷ []) ∷ return-of 3 (s ∷ []) ∷ call-of 5 [] ∷ call-of 4 (f′ ∷ s′ ∷ []) ∷ []
 
+-- fetch(12) returns 900, and these two are applied after midnight
 abbrev pub applied : List Event
 applied = stale-day (number 12) (number 900) (number 12) (number 900)
 
+-- fetch(12) returns 900, and 12 and 901 are applied
 abbrev pub applied-other : List Event
 applied-other = stale-day (number 12) (number 900) (number 12) (number 901)
 
@@ -100,9 +108,11 @@ wait = record {
       statement-of 2 error (call-label 3 []) [] ∷ [];
 }
 
+-- calls of g, p and r
 abbrev pub gpr : List Event
 gpr = call-of 1 [] ∷ call-of 2 [] ∷ call-of 3 [] ∷ []
 
+-- and of z
 abbrev pub gprz : List Event
 gprz = gpr ++ (call-of 4 [] ∷ [])
 
@@ -110,13 +120,15 @@ gprz = gpr ++ (call-of 4 [] ∷ [])
 abbrev pub label-spelt : List ℕ → Class
 label-spelt text = label-class (label-of text)
 
+-- HW-12 and day-1 are fetched, hw-12 and DAY-1 applied
 abbrev pub applied-labels : List Event
 applied-labels = stale-day (label-spelt (codes "HW-12")) (label-spelt (codes "day-1")) (label-spelt (codes "hw-12")) (label-spelt (codes "DAY-1"))
 
--- the run that the day of Stale shows, and the ledger at its end
+-- the run that the day of Stale shows
 abbrev pub first-path : List ℕ
 first-path = 1 ∷ 2 ∷ 3 ∷ []
 
+-- the ledger at the end of that day
 abbrev pub stale-end : Ledger
 stale-end = broken-at (begun-over 16384 stale [] 64) (so-far applied) 4 first-path
 

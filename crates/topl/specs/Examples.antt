@@ -31,10 +31,11 @@ fifth = record {
   statements = statement-of start 2 (call-label 1 (Any ∷ Any ∷ Any ∷ Any ∷ Write 0 ∷ [])) [] ∷ statement-of 2 error (call-label 2 (Same 0 ∷ [])) [] ∷ [];
 }
 
--- start -> a: ret S := m; a -> error: call n(s), with m 1 and n 2; and the same with !s
+-- start -> a: ret S := m; a -> error: call n(s), with m 1 and n 2
 abbrev pub returned-same : Table
 returned-same = record { methods = (1, 0) ∷ (2, 1) ∷ []; constants = []; statements = statement-of start 2 (return-label (Write 0) 1) [] ∷ statement-of 2 error (call-label 2 (Same 0 ∷ [])) [] ∷ [] }
 
+-- start -> a: ret S := m; a -> error: call n(!s)
 abbrev pub returned-other : Table
 returned-other = record { methods = (1, 0) ∷ (2, 1) ∷ []; constants = []; statements = statement-of start 2 (return-label (Write 0) 1) [] ∷ statement-of 2 error (call-label 2 (Differs 0 ∷ [])) [] ∷ [] }
 
@@ -55,19 +56,23 @@ abbrev pub wait-more : Table
 wait-more = record { methods = wait .methods; constants = []; statements = wait .statements ++ (statement-of start 4 (call-label 2 []) [] ∷ []) }
 
 -- SOURCES
--- a fetch with no value, and then a midnight; and a source that ends in a refusal of a journal
+-- a call of midnight
 abbrev pub midnight : Event
 midnight = call-of 5 []
 
+-- a source with a fetch of no value, and then a midnight
 abbrev pub odd-source : Source
 odd-source = record { waiting = call-of 3 [] ∷ midnight ∷ []; ending = End }
 
+-- a refusal of a journal
 abbrev pub cut : Refusal
 cut = record { layer = Journal; reason = Cut; place = 7 }
 
+-- a source with a midnight, which ends in that refusal
 abbrev pub cut-source : Source
 cut-source = record { waiting = midnight ∷ []; ending = Refused cut }
 
+-- a watch with this ledger, and sources
 abbrev pub with-sources : Ledger → List Source → Moment
 with-sources l W = record { ledger = l; sources = W }
 
@@ -164,20 +169,23 @@ Accepted P es = In-language (begun-over 16384 P [] 64) es
 abbrev pub Settled-error : Table → List Event → Type 0
 Settled-error P es = (p : ℕ) × Error-at P (registers-of (begun-over 16384 P [] 64)) (so-far es) p
 
--- m(1), and then n(2, 1), whose second value is what m wrote; or n(2, 2), whose second value is what n writes itself
+-- m(1), and then n(2, 1), whose second value is what m wrote
 abbrev pub reads-earlier : List Event
 reads-earlier = call-of 1 (number 1 ∷ []) ∷ call-of 2 (number 2 ∷ number 1 ∷ []) ∷ []
 
+-- m(1), and then n(2, 2), whose second value is what n writes itself
 abbrev pub reads-itself : List Event
 reads-itself = call-of 1 (number 1 ∷ []) ∷ call-of 2 (number 2 ∷ number 2 ∷ []) ∷ []
 
--- m and n, and the same with a call of an undeclared method between them
+-- m and n
 abbrev pub consecutive : List Event
 consecutive = call-of 1 [] ∷ call-of 2 [] ∷ []
 
+-- m and n, with a call of an undeclared method between them
 abbrev pub interrupted : List Event
 interrupted = call-of 1 [] ∷ call-of 9 [] ∷ call-of 2 [] ∷ []
 
+-- What each of three other readings would get wrong.
 pub record Excluded : Type 0 where
   -- Skipping as soon as nothing passes, while more may come: after g, p, r such a run would reach `error`, as it does once the list has ended; but z may
   -- still come, and then no run does.

@@ -57,6 +57,7 @@ Does m (ask-path page) a o = (o ≡ m) × (a ≡ path-on (m .ledger) page)
 abbrev pub Log : Type 0
 Log = List (Call × Answer)
 
+-- the calls alone
 abbrev pub calls-of : Log → List Call
 calls-of h = map (λ t. t .0) h
 
@@ -66,11 +67,12 @@ History m [] n = n ≡ m
 History m (t ∷ h) n = (o : Moment) × Does m (t .0) (t .1) o × History o h n
 
 -- WHAT ONE CALL CHANGES
--- the event that a call brings: a feed its own, a draw the first that waits at its source
+-- the first event that waits at a source
 abbrev pub first-of : Option Source → List Event
 first-of None = []
 first-of (Some s) = take 1 (s .waiting)
 
+-- the event that a call brings: a feed its own, a draw the first that waits at its source
 abbrev pub brought : List Source → Call → List Event
 brought W (to-begin P ks cap) = []
 brought W (to-feed e) = e ∷ []
@@ -104,6 +106,7 @@ abbrev pub drawn-from : List Source → ℕ → Option Source → List Source
 drawn-from W k None = W
 drawn-from W k (Some s) = set W k (record { waiting = drop 1 (s .waiting); ending = s .ending })
 
+-- is the watch running
 abbrev pub is-running : Phase → Bool
 is-running Blank = false
 is-running Running = true
@@ -145,6 +148,7 @@ mode-after w (ask-path page) a = w
 abbrev pub Arguments : Type 0
 Arguments = Table × List Class × ℕ
 
+-- what the ledger says of it
 abbrev pub begun-with : Ledger → Arguments
 begun-with l = (l .table, l .constants, l .cap)
 
@@ -159,6 +163,7 @@ begun-as was P ks cap (wrote n page) = was
 begun-as was P ks cap (unwritten f page) = was
 begun-as was P ks cap (refused f) = was
 
+-- and after any call
 abbrev pub begun-by : Arguments → Call → Answer → Arguments
 begun-by was (to-begin P ks cap) a = begun-as was P ks cap a
 begun-by was (to-feed e) a = was
@@ -188,6 +193,7 @@ Means l Spilled = l .position ≡ None
 Means l Full = l .position ≡ None
 Means l Kept = (l .position ≡ None) × ((p : ℕ) → ¬ Error-at (l .table) (registers-of l) (closing (l .judged)) p)
 
+-- the ledger keeps true what its phase says
 abbrev pub Sound : Ledger → Type 0
 Sound l = Means l (l .phase)
 

@@ -56,6 +56,7 @@ fresh board book =
 abbrev pub world-of : Ledger → World
 world-of l = record { mode = l .mode; events = l .judged }
 
+-- the registers with which its runs begin
 abbrev pub registers-of : Ledger → Registers
 registers-of l = initial (l .table) (l .constants)
 
@@ -85,6 +86,7 @@ pub data Answer : Type 0 where
 abbrev pub refusal : Ledger → Reason → Refusal
 refusal l n = record { layer = Watch; reason = n; place = length (l .judged) }
 
+-- the answer that refuses so
 abbrev pub refuse : Ledger → Reason → Answer
 refuse l n = refused (refusal l n)
 
@@ -92,6 +94,7 @@ refuse l n = refused (refusal l n)
 abbrev pub reason-if : Bool → Reason → Option Reason → Option Reason
 reason-if b n later = cond b (Some n) later
 
+-- is the watch blank
 abbrev pub is-blank : Phase → Bool
 is-blank Blank = true
 is-blank Running = false
@@ -108,6 +111,7 @@ opening-reason phase board book given wanted cap =
     (reason-if (not (eqb given wanted)) (of-watch OtherConstants)
     (reason-if (ltb board (40 * cap + 64) || eqb book 0) (of-watch SmallBoard) None)))
 
+-- the same at a ledger
 abbrev pub begin-reason : Ledger → Table → List Class → ℕ → Option Reason
 begin-reason l P ks cap = opening-reason (l .phase) (l .board) (l .book) (length ks) (length (P .constants)) cap
 
@@ -132,6 +136,7 @@ count-reason P id n =
     (reason-if (ltb (most-values id) n) TooManyValues
     (reason-if (calls id && other-arity (P .methods) id n) (of-watch OtherArity) None))
 
+-- the same of an event
 abbrev pub event-reason : Table → Event → Option Reason
 event-reason P e = count-reason P (e .id) (length (e .values))
 
@@ -155,6 +160,7 @@ abbrev pub began : Ledger → Table → List Class → ℕ → Ledger
 began l P ks cap =
     record { board = l .board; book = l .book; phase = Running; table = P; constants = ks; cap = cap; judged = []; mode = settled; position = None; shown = [] }
 
+-- what a begin does
 abbrev pub Begins : Ledger → Table → List Class → ℕ → Ledger × Answer → Type 0
 Begins l P ks cap r = unless l (begin-reason l P ks cap) (λ r. r ≡ (began l P ks cap, begun)) r
 
@@ -225,5 +231,6 @@ on-page l page Kept = unwritten (refusal l (of-watch NotBroken)) page
 on-page l page Broken =
     cond (ltb (length page) (length (l .shown))) (unwritten (refusal l (of-watch SmallPage)) page) (wrote (length (l .shown)) (l .shown ++ drop (length (l .shown)) page))
 
+-- the same at the phase of the ledger
 abbrev pub path-on : Ledger → List ℕ → Answer
 path-on l page = on-page l page (l .phase)

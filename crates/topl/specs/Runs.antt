@@ -74,10 +74,11 @@ pub record World : Type 0 where
   pub mode : Mode
   pub events : List Event
 
--- the judged events while more may come, and once the list has ended
+-- the judged events while more may come
 abbrev pub so-far : List Event → World
 so-far es = record { mode = settled; events = es }
 
+-- the judged events once the list has ended
 abbrev pub closing : List Event → World
 closing es = record { mode = closed; events = es }
 
@@ -147,18 +148,20 @@ calm closed (passes s) = false
 calm closed fails = true
 calm closed hangs = true
 
--- where one statement leads from c at p, if it leaves the state and passes; whether it lets a skip go on
+-- where one statement leads from c at p, if it leaves the state and passes
 abbrev pub lands : World → ℕ → Configuration → ℕ × Statement → List Landing
 lands w p c t = cond (eqb (t .1 .source) (c .state)) (landing-of p t (outcome-of w p c t)) []
 
+-- whether it lets a skip go on
 abbrev pub calms : World → ℕ → Configuration → ℕ × Statement → Bool
 calms w p c t = cond (eqb (t .1 .source) (c .state)) (calm (w .mode) (outcome-of w p c t)) true
 
--- where some statements lead; whether all of them let a skip go on
+-- where some statements lead
 abbrev pub passing : World → ℕ → Configuration → List (ℕ × Statement) → List Landing
 passing w p c [] = []
 passing w p c (t ∷ ts) = lands w p c t ++ passing w p c ts
 
+-- whether all of them let a skip go on
 abbrev pub quiet : World → ℕ → Configuration → List (ℕ × Statement) → Bool
 quiet w p c [] = true
 quiet w p c (t ∷ ts) = calms w p c t && quiet w p c ts

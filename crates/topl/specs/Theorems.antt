@@ -155,6 +155,7 @@ Steady P k cap book L =
 
 -- From there a feed or a close has to look only at the positions from judged - 2 on. The need there follows from what each position gains.
 module _ (P : Table) (k : Registers) (cap book : ℕ) (L : List Event) (now : World) where
+  -- what a feed or a close finds, position by position
   pub record Resumes : Type 0 where
     pub kept : (p : ℕ) → p + 3 ≤ length L → count P k now p ≡ count P k (so-far L) p
     pub passed : (p : ℕ) → p + 3 ≤ length L → Undecided P k cap book (so-far L) now p
