@@ -31,6 +31,10 @@ when-not l does o r e d = subst (λ (z : Option Reason). unless l z does r) (sym
 pub is-refused : (l : Ledger) (does : Ledger × Answer → Type 0) (o : Option Reason) (n : Reason) (r : Ledger × Answer) → o ≡ Some n → unless l o does r → r ≡ (l, refuse l n)
 is-refused l does o n r e u = subst (λ (z : Option Reason). unless l z does r) e u
 
+-- where it is not, it does what it does
+pub is-none : (l : Ledger) (does : Ledger × Answer → Type 0) (o : Option Reason) (r : Ledger × Answer) → o ≡ None → unless l o does r → does r
+is-none l does o r e u = subst (λ (z : Option Reason). unless l z does r) e u
+
 module _ (l : Ledger) where
   -- a begin is refused, or begins
   pub begins-refused : (P : Table) (ks : List Class) (cap : ℕ) (n : Reason) → begin-reason l P ks cap ≡ Some n → Begins l P ks cap (l, refuse l n)

@@ -28,3 +28,4 @@ pub mod Refusing
 pub mod Loops
 pub mod Moves
 pub mod Positions
+pub mod Ruled

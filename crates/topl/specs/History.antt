@@ -17,8 +17,9 @@ use Rattle.topl.specs.Lists.{Class, _∈_}
 use Rattle.topl.specs.Automata.{High-language}
 use Rattle.topl.specs.Table.{Event, calls, most-values, Statement, Table, numbered, error, Lawful}
 use Rattle.topl.specs.Translation.{letter, automaton-of}
-use Rattle.topl.specs.Runs.{Configuration, Mode, settled, closed, so-far, closing, Error-at}
-use Rattle.topl.specs.Ledger.{Ledger, fresh, registers-of, world-of, broken-at, Answer, begun, no-event, no-source, says, verdict-is, wrote, unwritten, refused, opening-reason, count-reason, Begins, Feeds, Closes, Source, Draws, Allowed, path-on, verdict}
+use Rattle.topl.specs.Runs.{Configuration, World, Mode, settled, closed, so-far, closing, Error-at}
+use Rattle.topl.specs.Ledger.{Ledger, fresh, registers-of, world-of, broken-at, Answer, begun, no-event, no-source, says, verdict-is, wrote, unwritten, refused, opening-reason, count-reason, phase-reason, feed-reason, rule, with-event, Begins, Feeds, Closes, Source, Draws, Allowed, path-on, verdict}
+use Rattle.topl.specs.Deciding.{breaks, spills, overfills, goes-on}
 use Rattle.topl.specs.Theorems.{Steady}
 
 -- CALLS
@@ -247,6 +248,34 @@ Telling = (board book : ℕ) (W : List Source) (h : Log) (n : Moment) → Histor
 -- So is one from any moment with a sound ledger.
 abbrev pub Telling-on : Type 0
 Telling-on = (m n : Moment) (h : Log) → Sound (m .ledger) → History m h n → Whole m h n
+
+-- the events that a history judges: of each feed and draw that is answered running or broken its own, in call order
+abbrev pub judged-over : (m : Moment) (h : Log) (n : Moment) → History m h n → List Event
+judged-over m [] n H = []
+judged-over m (t ∷ h) n (o, d, H) = cond (judges (t .1)) (brought (m .sources) (t .0)) [] ++ judged-over o h n H
+
+-- The judged list of a watch is exactly these.
+abbrev pub Judges-each-once : Type 0
+Judges-each-once = (board book : ℕ) (W : List Source) (h : Log) (n : Moment) (H : History (made board book W) h n) → n .ledger .judged ≡ judged-over (made board book W) h n H
+
+-- A draw that the phase allows takes the first waiting event, and leaves the rest and the ending; one that it refuses leaves the source and the ledger.
+abbrev pub Draws-take-one : Type 0
+Draws-take-one =
+    (l : Ledger) (s s′ : Source) (r : Ledger × Answer) → Draws l s r s′ →
+    (l .phase ≡ Running → s′ ≡ record { waiting = drop 1 (s .waiting); ending = s .ending }) × (¬ (l .phase ≡ Running) → (s′ ≡ s) × (r .0 ≡ l))
+
+-- Where no refusal comes first, the phase after a feed or a close is what the deciding rule says of the list w, and idle if it decides nothing.
+pub record Phase-by-rule (l : Ledger) (w : World) (idle : Phase) (r : Ledger × Answer) : Type 0 where
+  pub is-broken : (p : ℕ) → ((r .0 .phase ≡ Broken) × (r .0 .position ≡ Some p)) ↔ (rule l w ≡ breaks p)
+  pub is-spilled : (r .0 .phase ≡ Spilled) ↔ (rule l w ≡ spills)
+  pub is-full : (r .0 .phase ≡ Full) ↔ (rule l w ≡ overfills)
+  pub is-idle : (r .0 .phase ≡ idle) ↔ (rule l w ≡ goes-on)
+
+-- It holds for a feed and for a close.
+abbrev pub Ruled : Type 0
+Ruled =
+    ((l : Ledger) (e : Event) (r : Ledger × Answer) → feed-reason l e ≡ None → Feeds l e r → Phase-by-rule l (with-event l e) Running r) ×
+    ((l : Ledger) (r : Ledger × Answer) → phase-reason (l .phase) ≡ None → Closes l r → Phase-by-rule l (closing (l .judged)) Kept r)
 
 -- All paths that a history writes are those of one run, the one that the ledger keeps at its end.
 abbrev pub One-run : Type 0

@@ -148,6 +148,12 @@ Rule-in-words = (P : Table) (k : Registers) (cap book : ℕ) (before now : World
 abbrev pub Finding : Type 0
 Finding = (P : Table) (k : Registers) (cap book : ℕ) (before now : World) → Finds P k cap book before now
 
+-- A larger cap and a larger book change no ruling but spilled and full.
+abbrev pub Larger-rules-alike : Type 0
+Larger-rules-alike =
+    (P : Table) (k : Registers) (cap cap′ book book′ : ℕ) (before now : World) → cap ≤ cap′ → book ≤ book′ → ¬ (decides P k cap book before now ≡ spills) → ¬ (decides P k cap book before now ≡ overfills) →
+    decides P k cap′ book′ before now ≡ decides P k cap book before now
+
 -- A steady list, while the watch runs: no settled run reaches `error`, no position has more than cap configurations, and the book holds them all.
 abbrev pub Steady : Table → Registers → ℕ → ℕ → List Event → Type 0
 Steady P k cap book L =
