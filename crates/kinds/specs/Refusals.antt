@@ -5,7 +5,7 @@ use lib.Chars.{codes}
 use Rattle.kinds.specs.declared.refusal.Layer.{Layer}
 use Rattle.kinds.specs.declared.refusal.Layer.the-variants.{Number, Value, Journal, Text, Watch, Mailbox}
 use Rattle.kinds.specs.declared.refusal.Reason.{Reason}
-use Rattle.kinds.specs.declared.refusal.Reason.the-variants.{Cut, Overlong, OtherHead, WildId, TooManyValues, BadLabel, TooLong}
+use Rattle.kinds.specs.declared.refusal.Reason.the-variants.{Cut, Overlong, OtherHead, WildId, TooManyValues, BadLabel, TooLong, NoRoom}
 use Rattle.kinds.specs.declared.refusal.Reason.the-variants.{Watch as of-watch}
 use Rattle.kinds.specs.declared.watch_reason.WatchReason.{WatchReason}
 use Rattle.kinds.specs.declared.watch_reason.WatchReason.the-variants.{NotBegun, BegunAlready, BadCap, OtherConstants, SmallBoard, OtherArity, IsBroken, IsSpilled, IsFull, IsKept, NotBroken, SmallPage}
@@ -45,6 +45,7 @@ number-of WildId = 4  -- an event's id is over 131,071
 number-of TooManyValues = 5  -- a call has over 5 values, or a return over 1
 number-of BadLabel = 6  -- a label's length or one of its bytes is wrong
 number-of TooLong = 7  -- a journal has over 65,536 bytes
+number-of NoRoom = 50  -- a mailbox holds as many events as it has places
 number-of (of-watch r) = watch-number r  -- what only a watch refuses
 
 -- A fault at a place.

@@ -33,6 +33,8 @@ pub enum Reason {
     BadLabel,
     // a journal has over 65,536 bytes
     TooLong,
+    // a mailbox holds as many events as it has places
+    NoRoom,
     // what only a watch refuses
     Watch(WatchReason),
 }
@@ -88,6 +90,7 @@ impl Reason {
             Reason::TooManyValues => 5,
             Reason::BadLabel => 6,
             Reason::TooLong => 7,
+            Reason::NoRoom => 50,
             Reason::Watch(reason) => reason.number(),
         }
     }

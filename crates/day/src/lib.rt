@@ -1,0 +1,4 @@
+// A whole day by one call: what a program prints of it.
+pub mod listing;
+pub mod page;
+pub mod shown;

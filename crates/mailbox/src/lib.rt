@@ -1,0 +1,2 @@
+// A mailbox: events in the order in which they were put.
+pub mod held;
