@@ -57,7 +57,7 @@ is-goes-on false true c p e = absurd (omega (arith, ap tag e))
 is-goes-on false false true p e = absurd (omega (arith, ap tag e))
 is-goes-on false false false p e = (refl, refl, refl)
 
--- the first-ruling ruling that is one
+-- the first ruling that decides
 or-else-cases : (x y r : Ruling) → or-else x y ≡ r → (x ≡ r) ⊎ ((x ≡ goes-on) × (y ≡ r))
 or-else-cases (breaks p) y r e = inl e
 or-else-cases spills y r e = inl e

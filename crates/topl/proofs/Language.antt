@@ -16,7 +16,7 @@ use Rattle.topl.specs.Runs.{Configuration, Error-at, Leaves, Reach, Reaches, R
 use Rattle.topl.specs.Theorems.{Recognizes}
 use Rattle.topl.proofs.Basics.{∈-each, ∈-once, eqb-tests}
 use Rattle.topl.proofs.Persist.{reach-bound}
-use Rattle.topl.proofs.Chain.{accepts-fires, fires-accepts}
+use Rattle.topl.proofs.Straight.{accepts-fires, fires-accepts}
 use Rattle.topl.proofs.Lawful.{lawful-final, lawful-once}
 use Rattle.topl.proofs.Translate.{AllKnown, passes-fires, fires-passes}
 

@@ -2,7 +2,7 @@ pub mod Basics
 pub mod Lawful
 pub mod Persist
 pub mod Enumerate
-pub mod Chain
+pub mod Straight
 pub mod Translate
 pub mod Language
 pub mod Deciding

@@ -18,7 +18,7 @@ use Rattle.topl.specs.Translation.{action-of, actions-of, guard-of, guards-of,
 use Rattle.topl.specs.Runs.{Registers, fails, fares, fits, fits-all, meets, passes, writes, written, written-all}
 use Rattle.topl.proofs.Basics.{same-tests}
 use Rattle.topl.proofs.Persist.{passes≢fails, passes≢hangs}
-use Rattle.topl.proofs.Chain.{Fires}
+use Rattle.topl.proofs.Straight.{Fires}
 
 given-same : {u v : Class} {a : Value} → a ≡ given u → a ≡ given v → u ≡ v
 given-same p q = cc

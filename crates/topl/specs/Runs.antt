@@ -103,7 +103,7 @@ pub data Move (P : Table) (w : World) (p : ℕ) (c : Configuration) : ℕ → �
   skip : p < length (w .events) → ((t : ℕ × Statement) → Leaves P c t → Lets-skip (w .mode) (outcome-of w p c t)) →
       Move P w p c 0 (suc p) c
 
--- where every run first-configuration
+-- where every run begins
 abbrev pub first-configuration : Registers → Configuration
 first-configuration k = record { state = start; registers = k }
 

@@ -1,4 +1,4 @@
--- What T(s; labels) accepts: letter by letter.
+-- What a straight automaton accepts, letter by letter.
 use Prim.Native.Nat.{ℕ, zero, suc, _+_, _≤_, _<_}
 use native.Mathlib.Omega.{arith}
 use mathlib.Core.Path.{_≡_, refl, sym, ap, subst, subst₂, _∙_}
