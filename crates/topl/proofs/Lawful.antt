@@ -75,7 +75,7 @@ method-tests = record {
 }
 
 -- the ids of a method
-call-half : (m : ℕ) → call-id m / 2 ≡ m
+pub call-half : (m : ℕ) → call-id m / 2 ≡ m
 call-half m = omega arith
 
 return-half : (m : ℕ) → return-id m / 2 ≡ m

@@ -15,10 +15,10 @@ use Rattle.kinds.specs.declared.refusal.Reason.the-variants.{WildId, TooManyVal
 use Rattle.kinds.specs.declared.watch_reason.WatchReason.the-variants.{BegunAlready, BadCap, OtherConstants, SmallBoard, OtherArity}
 use Rattle.topl.specs.Lists.{Class, _∈_}
 use Rattle.topl.specs.Automata.{High-language}
-use Rattle.topl.specs.Table.{Event, calls, most-values, Statement, Table, numbered, error, Lawful}
+use Rattle.topl.specs.Table.{Event, Lawful-event, calls, most-values, Statement, Table, numbered, error, Lawful}
 use Rattle.topl.specs.Translation.{letter, automaton-of}
 use Rattle.topl.specs.Runs.{Configuration, World, Mode, settled, closed, so-far, closing, Error-at}
-use Rattle.topl.specs.Ledger.{Ledger, fresh, registers-of, world-of, broken-at, Answer, begun, no-event, no-source, says, verdict-is, wrote, unwritten, refused, opening-reason, count-reason, phase-reason, feed-reason, rule, with-event, Begins, Feeds, Closes, Source, Draws, Allowed, path-on, verdict}
+use Rattle.topl.specs.Ledger.{Ledger, fresh, registers-of, world-of, broken-at, Answer, begun, no-event, no-source, says, verdict-is, wrote, unwritten, refused, opening-reason, count-reason, phase-reason, event-reason, feed-reason, rule, with-event, Begins, Feeds, Closes, Source, Draws, Allowed, path-on, verdict}
 use Rattle.topl.specs.Deciding.{breaks, spills, overfills, goes-on}
 use Rattle.topl.specs.Theorems.{Steady}
 
@@ -344,7 +344,8 @@ module _ (P : Table) (id n : ℕ) where
     pub is-30 : (count-reason P id n ≡ Some (of-watch OtherArity)) ↔ ((id ≤ 131071) × ((n ≤ most-values id) × Wrong-count))
     pub is-none : (count-reason P id n ≡ None) ↔ ((id ≤ 131071) × ((n ≤ most-values id) × (¬ Wrong-count)))
 
--- Both hold for all numbers.
+-- Both hold for all numbers; and of a lawful event, as every source hands over, only the arity can be refused.
 abbrev pub Refusing : Type 0
 Refusing =
-    ((phase : Phase) (board book given wanted cap : ℕ) → Begin-refusals phase board book given wanted cap) × ((P : Table) (id n : ℕ) → Event-refusals P id n)
+    ((phase : Phase) (board book given wanted cap : ℕ) → Begin-refusals phase board book given wanted cap) × ((P : Table) (id n : ℕ) → Event-refusals P id n) ×
+    ((P : Table) (e : Event) → Lawful-event e → (event-reason P e ≡ None) ⊎ (event-reason P e ≡ Some (of-watch OtherArity)))

@@ -2,7 +2,7 @@
 use kinds::kind::Kind;
 use kinds::phase::Phase;
 ghost use Rattle.topl.specs.Theorems.{Bounded, Certain, Enumerates, Few-steps, Finding, Gains, Labels-join, Larger-rules-alike, Needs, Persists, Places-agree, Recognizes, Replays, Rule-in-words, Stepping, Tested, Verdicts, Watching};
-ghost use Rattle.topl.specs.History.{Answered, Determined, Draws-take-one, Judges-each-once, One-run, Refusing, Ruled, Stays-sound, Telling};
+ghost use Rattle.topl.specs.History.{Answered, Determined, Draws-take-one, Judges-each-once, One-run, Refusing, Ruled, Stays-sound, Telling, Telling-on};
 ghost use Rattle.topl.specs.Days.{Tells-of, Worked, stale-end};
 ghost use Rattle.topl.specs.Examples.{Examples, Excluded};
 
@@ -69,6 +69,11 @@ pub fn the_ledger_stays_sound()
 // Every history of calls is true as a whole: at every moment, and in every call.
 pub fn histories_are_true()
     ensures { λ _. ⌜ Telling ⌝ }
+{}
+
+// So is every history from a moment whose ledger is sound.
+pub fn true_histories_go_on()
+    ensures { λ _. ⌜ Telling-on ⌝ }
 {}
 
 // All paths that a history writes are those of one run.
