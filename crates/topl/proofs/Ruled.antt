@@ -1,5 +1,5 @@
 -- Draws, and the phase after a feed or a close.
-use Prim.Native.Nat.{ℕ}
+use Prim.Native.Nat.{ℕ, _≤_, min}
 use native.Mathlib.Omega.{arith}
 use mathlib.Core.Path.{_≡_, refl, sym, ap, subst, _∙_}
 use mathlib.Core.Logic.{_↔_, _⊎_, inl, inr, ⊎-elim}
@@ -12,10 +12,10 @@ use Rattle.kinds.specs.declared.phase.Phase.the-variants.{Blank, Running, Broke
 use Rattle.kinds.specs.declared.refusal.Reason.{Reason}
 use Rattle.kinds.specs.declared.refusal.Ending.{Ending}
 use Rattle.topl.specs.Table.{Event}
-use Rattle.topl.specs.Runs.{World, closing}
-use Rattle.topl.specs.Deciding.{Ruling, breaks, goes-on, overfills, spills}
-use Rattle.topl.specs.Ledger.{Answer, Ledger, Settles, Source, Takes, draws-by, feed-reason, phase-reason, rule, with-event}
-use Rattle.topl.specs.History.{Draws-take-one, Phase-by-rule, Ruled}
+use Rattle.topl.specs.Runs.{World, closing, so-far}
+use Rattle.topl.specs.Deciding.{Ruling, breaks, decides, goes-on, overfills, spills}
+use Rattle.topl.specs.Ledger.{Answer, Ledger, Settles, Source, Takes, draws-by, feed-reason, phase-reason, registers-of, rule, with-event}
+use Rattle.topl.specs.History.{Books-count, Draws-take-one, Phase-by-rule, Ruled}
 use Rattle.topl.proofs.Calls.{is-none}
 
 -- draws
@@ -115,3 +115,10 @@ ruled = (
   λ l e r n f. by-rule l (with-event l e) Running r running-idle (is-none l (Settles l (with-event l e) Running (rule l (with-event l e))) (feed-reason l e) r n f),
   λ l r n f. by-rule l (closing (l .judged)) Kept r kept-idle (is-none l (Settles l (closing (l .judged)) Kept (rule l (closing (l .judged)))) (phase-reason (l .phase)) r n f),
 )
+
+pub books-count : Books-count
+unfolding rule
+books-count l w = (λ h. counts (l .book) (omega arith), λ h. counts 16384 (omega arith))
+  where
+    counts : (n : ℕ) → min (l .book) 16384 ≡ n → rule l w ≡ decides (l .table) (registers-of l) (l .cap) n (so-far (l .judged)) w
+    counts n e = ap (λ (n : ℕ). decides (l .table) (registers-of l) (l .cap) n (so-far (l .judged)) w) e

@@ -19,7 +19,7 @@ use Rattle.topl.specs.Table.{Event, Lawful-event, calls, most-values, Statemen
 use Rattle.topl.specs.Translation.{letter, automaton-of}
 use Rattle.topl.specs.Runs.{Configuration, World, Mode, settled, closed, so-far, closing, Error-at}
 use Rattle.topl.specs.Ledger.{Ledger, fresh, registers-of, world-of, broken-at, Answer, begun, no-event, no-source, says, verdict-is, wrote, unwritten, refused, opening-reason, count-reason, phase-reason, event-reason, feed-reason, rule, with-event, Begins, Feeds, Closes, Source, Draws, Allowed, path-on, verdict}
-use Rattle.topl.specs.Deciding.{breaks, spills, overfills, goes-on}
+use Rattle.topl.specs.Deciding.{breaks, spills, overfills, goes-on, decides}
 use Rattle.topl.specs.Theorems.{Steady}
 
 -- CALLS
@@ -276,6 +276,13 @@ abbrev pub Ruled : Type 0
 Ruled =
     ((l : Ledger) (e : Event) (r : Ledger × Answer) → feed-reason l e ≡ None → Feeds l e r → Phase-by-rule l (with-event l e) Running r) ×
     ((l : Ledger) (r : Ledger × Answer) → phase-reason (l .phase) ≡ None → Closes l r → Phase-by-rule l (closing (l .judged)) Kept r)
+
+-- The rule counts the entries of the book, and 16,384 where it has more.
+abbrev pub Books-count : Type 0
+Books-count =
+    (l : Ledger) (w : World) →
+    (l .book ≤ 16384 → rule l w ≡ decides (l .table) (registers-of l) (l .cap) (l .book) (so-far (l .judged)) w) ×
+    (16384 ≤ l .book → rule l w ≡ decides (l .table) (registers-of l) (l .cap) 16384 (so-far (l .judged)) w)
 
 -- All paths that a history writes are those of one run, the one that the ledger keeps at its end.
 abbrev pub One-run : Type 0

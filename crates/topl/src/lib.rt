@@ -2,7 +2,7 @@
 use kinds::kind::Kind;
 use kinds::phase::Phase;
 ghost use Rattle.topl.specs.Theorems.{Bounded, Certain, Enumerates, Few-steps, Finding, Gains, Labels-join, Larger-rules-alike, Needs, Persists, Places-agree, Recognizes, Replays, Rule-in-words, Stepping, Tested, Verdicts, Watching};
-ghost use Rattle.topl.specs.History.{Answered, Determined, Draws-take-one, Judges-each-once, One-run, Refusing, Ruled, Stays-sound, Telling, Telling-on};
+ghost use Rattle.topl.specs.History.{Answered, Books-count, Determined, Draws-take-one, Judges-each-once, One-run, Refusing, Ruled, Stays-sound, Telling, Telling-on};
 ghost use Rattle.topl.specs.Days.{Tells-of, Worked, stale-end};
 ghost use Rattle.topl.specs.Examples.{Examples, Excluded};
 
@@ -154,6 +154,11 @@ pub fn phases_come_by_the_rule()
 // A larger cap and a larger book change no ruling but spilled and full.
 pub fn a_larger_book_rules_alike()
     ensures { λ _. ⌜ Larger-rules-alike ⌝ }
+{}
+
+// The rule counts the entries of the book, and 16,384 where it has more.
+pub fn long_books_count_alike()
+    ensures { λ _. ⌜ Books-count ⌝ }
 {}
 
 // The class of a place is the place of the classes, for every kind.
