@@ -1,8 +1,7 @@
 -- The worked days, computed.
-use Prim.Native.Nat.{ℕ}
 use lib.ListN.{take}
-use mathlib.Core.Path.{_≡_, refl}
-use mathlib.Core.List.{List, [], _∷_, _++_}
+use mathlib.Core.Path.{refl}
+use mathlib.Core.List.{[], _∷_}
 use Rattle.topl.specs.Runs.{closing, reached, runs, so-far}
 use Rattle.topl.specs.Deciding.{decides, need, ruling-at}
 use Rattle.topl.specs.Ledger.{registers-of, rule}

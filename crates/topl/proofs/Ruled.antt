@@ -1,15 +1,13 @@
 -- Draws, and the phase after a feed or a close.
-use Prim.Native.Nat.{ℕ, _≤_, min}
+use Prim.Native.Nat.{ℕ, min}
 use native.Mathlib.Omega.{arith}
-use mathlib.Core.Path.{_≡_, refl, sym, ap, subst, _∙_}
-use mathlib.Core.Logic.{_↔_, _⊎_, inl, inr, ⊎-elim}
-use mathlib.Core.List.{List, [], _∷_, _++_}
+use mathlib.Core.Path.{_≡_, refl, sym, ap, _∙_}
+use mathlib.Core.List.{List, [], _∷_}
 use lib.ListN.{drop}
 use Rattle.std.specs.declared.option.Option.{Option}
 use Rattle.std.specs.declared.option.Option.the-variants.{Some, None}
 use Rattle.kinds.specs.declared.phase.Phase.{Phase}
 use Rattle.kinds.specs.declared.phase.Phase.the-variants.{Blank, Running, Broken, Spilled, Full, Kept}
-use Rattle.kinds.specs.declared.refusal.Reason.{Reason}
 use Rattle.kinds.specs.declared.refusal.Ending.{Ending}
 use Rattle.topl.specs.Table.{Event}
 use Rattle.topl.specs.Runs.{World, closing, so-far}

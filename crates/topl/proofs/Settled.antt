@@ -1,16 +1,16 @@
 -- The settled runs of a list are the runs that every longer list keeps.
-use Prim.Native.Nat.{ℕ, zero, suc, _+_, _*_, _%_, _≤_, _<_}
+use Prim.Native.Nat.{ℕ, zero, suc, _+_, _≤_, _<_}
 use native.Mathlib.Omega.{arith}
 use mathlib.Core.Path.{_≡_, refl, sym, ap, subst, _∙_}
-use mathlib.Core.Logic.{_↔_, _⊎_, inl, inr, ⊎-elim}
-use mathlib.Core.Bool.{Bool, true, false, cond, not, _&&_, true≢false, false≢true}
+use mathlib.Core.Logic.{_⊎_, inl, inr, ⊎-elim}
+use mathlib.Core.Bool.{Bool, true, false, cond, true≢false}
 use mathlib.Core.Option.{Option, none, some}
-use mathlib.Core.List.{List, [], _∷_, _++_, map, append-nil, List·Memᴰ, List·Memᴰ·head, List·Memᴰ·tail, List·Memᴰ·not-nil, List·Memᴰ·cases-cons, List·Memᴰ·eq-of-singleton, Memᴰ·map}
+use mathlib.Core.List.{List, [], _∷_, _++_, map, append-nil, List·Memᴰ·head, List·Memᴰ·tail, List·Memᴰ·not-nil, List·Memᴰ·cases-cons, List·Memᴰ·eq-of-singleton, Memᴰ·map}
 use lib.ListN.{length, getD, drop, length-map, length-append}
 use lib.Seq.{drop-append-le}
 use lib.Dec.{eqb}
-use borrow.Author.Tests.{eq-eqb, ne-eqb}
-use Rattle.std.proofs.shelf.Tests.{and-parts, and-from, not-from-false, cases-bool}
+use borrow.Author.Tests.{eq-eqb}
+use Rattle.std.proofs.shelf.Tests.{and-from, not-from-false}
 use Rattle.topl.proofs.Basics.{same-tests}
 use Rattle.topl.proofs.Lawful.{written-or-implied, call-half, is-call-id, is-return-id}
 use Rattle.topl.proofs.Refusing.{event-refusals}
@@ -22,7 +22,7 @@ use Rattle.topl.specs.Rows.{by-step, replay, then}
 use Rattle.topl.specs.Ledger.{event-reason}
 use Rattle.topl.specs.Theorems.{All-taken, Certain, Errs-by}
 use Rattle.topl.specs.History.{Wrong-count}
-use Rattle.topl.proofs.Persist.{passes≢fails, passes≢hangs, fails≢hangs, fares-more, move-bounds, keeps-longer, keeps-closing, persists}
+use Rattle.topl.proofs.Persist.{passes≢hangs, fails≢hangs, move-bounds, keeps-longer, keeps-closing, persists}
 use Rattle.topl.proofs.Replays.{replays, numbers, some-same, none≢some, step-sound, step-complete}
 
 -- AN EVENT THAT MEETS A MATCHER

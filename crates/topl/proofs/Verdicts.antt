@@ -1,8 +1,8 @@
 -- What the rulings mean for the language, and with a larger cap and book.
-use Prim.Native.Nat.{ℕ, _≤_, _<_}
+use Prim.Native.Nat.{ℕ, _≤_}
 use native.Mathlib.Omega.{arith}
 use mathlib.Core.Path.{_≡_, refl, sym, _∙_}
-use mathlib.Core.List.{List, _++_}
+use mathlib.Core.List.{_++_}
 use Rattle.topl.specs.Table.{Table}
 use Rattle.topl.specs.Runs.{Registers, World, closing, so-far}
 use Rattle.topl.specs.Deciding.{Ruling, breaks, count, decides, goes-on, need, overfills, spills}

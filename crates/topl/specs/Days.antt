@@ -1,25 +1,25 @@
 -- Worked days: what the definitions say of the calls of a few days, by computing.
-use Prim.Native.Nat.{ℕ, suc, _+_}
+use Prim.Native.Nat.{ℕ}
 use mathlib.Core.Path.{_≡_}
 use mathlib.Core.List.{List, [], _∷_, _++_, map}
 use lib.ListN.{length, take}
 use lib.Chars.{codes}
 use Rattle.std.specs.declared.option.Option.the-variants.{Some, None}
-use Rattle.kinds.specs.declared.phase.Phase.the-variants.{Blank, Running, Broken, Spilled, Full, Kept}
-use Rattle.kinds.specs.declared.refusal.Layer.the-variants.{Watch, Journal}
+use Rattle.kinds.specs.declared.phase.Phase.the-variants.{Running, Broken, Spilled, Full, Kept}
+use Rattle.kinds.specs.declared.refusal.Layer.the-variants.{Watch}
 use Rattle.kinds.specs.declared.refusal.Reason.{Reason}
-use Rattle.kinds.specs.declared.refusal.Reason.the-variants.{Cut, WildId, TooManyValues, Watch as of-watch}
+use Rattle.kinds.specs.declared.refusal.Reason.the-variants.{Watch as of-watch}
 use Rattle.kinds.specs.declared.watch_reason.WatchReason.{WatchReason}
-use Rattle.kinds.specs.declared.watch_reason.WatchReason.the-variants.{NotBegun, BegunAlready, BadCap, OtherConstants, SmallBoard, OtherArity, IsBroken, IsSpilled, IsFull, IsKept, NotBroken, SmallPage}
+use Rattle.kinds.specs.declared.watch_reason.WatchReason.the-variants.{IsSpilled, IsFull}
 use Rattle.kinds.specs.declared.refusal.Refusal.{Refusal}
 use Rattle.kinds.specs.Numbers.{number-class}
 use Rattle.kinds.specs.Labels.{label-of, label-class}
 use Rattle.topl.specs.declared.Told.{Told}
-use Rattle.topl.specs.Lists.{Class, nothing}
-use Rattle.topl.specs.Table.{Event, call-id, return-id, Any, Write, Same, Differs, call-label, return-label, whole-label, statement-of, Table, start, error, Lawful}
-use Rattle.topl.specs.Runs.{so-far, closing, Error-at}
-use Rattle.topl.specs.Ledger.{Ledger, fresh, began, turned, broken-at, Answer, begun, no-event, no-source, says, verdict-is, wrote, unwritten, refused, Source, registers-of}
-use Rattle.topl.specs.History.{Call, to-begin, to-feed, to-draw, to-close, ask-verdict, ask-path, Moment, made, Log, calls-of, History, In-language}
+use Rattle.topl.specs.Lists.{Class}
+use Rattle.topl.specs.Table.{Event, call-id, return-id, Write, Same, call-label, whole-label, statement-of, Table, start, error, Lawful}
+use Rattle.topl.specs.Runs.{so-far, closing}
+use Rattle.topl.specs.Ledger.{Ledger, fresh, began, turned, broken-at, Answer, begun, says, verdict-is, wrote, refused}
+use Rattle.topl.specs.History.{to-begin, to-feed, to-close, ask-verdict, ask-path, Moment, made, Log, calls-of, History, In-language}
 
 -- This is a history of these calls, and there is no other: the answers, and what there is at the end.
 abbrev pub Only : Moment → Log → Moment → Type 0

@@ -1,22 +1,22 @@
 -- Further worked histories, one for each clause of the rules that no worked day shows, and the readings that the rules exclude.
 use Prim.Native.Nat.{ℕ}
 use mathlib.Core.Path.{_≡_}
-use mathlib.Core.List.{List, [], _∷_, _++_, map}
+use mathlib.Core.List.{List, [], _∷_, _++_}
 use lib.ListN.{take, replicate}
-use Rattle.std.specs.declared.option.Option.the-variants.{Some, None}
-use Rattle.kinds.specs.declared.phase.Phase.the-variants.{Blank, Running, Broken, Spilled, Full, Kept}
-use Rattle.kinds.specs.declared.refusal.Layer.the-variants.{Watch, Journal}
+use Rattle.std.specs.declared.option.Option.the-variants.{None}
+use Rattle.kinds.specs.declared.phase.Phase.the-variants.{Blank, Running, Spilled, Full, Kept}
+use Rattle.kinds.specs.declared.refusal.Layer.the-variants.{Journal}
 use Rattle.kinds.specs.declared.refusal.Reason.the-variants.{Cut, WildId, TooManyValues, Watch as of-watch}
 use Rattle.kinds.specs.declared.watch_reason.WatchReason.the-variants.{NotBegun, BegunAlready, BadCap, OtherConstants, SmallBoard, OtherArity, IsBroken, IsSpilled, IsFull, IsKept, NotBroken, SmallPage}
 use Rattle.kinds.specs.declared.refusal.Refusal.{Refusal}
 use Rattle.kinds.specs.declared.refusal.Ending.the-variants.{End, Refused}
 use mathlib.Core.Bool.{true}
-use Rattle.topl.specs.Lists.{Class, nothing, every}
-use Rattle.topl.specs.Table.{Event, Any, Write, Same, Differs, call-label, return-label, whole-label, any-label, statement-of, Table, empty-table, start, error, is-lawful}
+use Rattle.topl.specs.Lists.{nothing, every}
+use Rattle.topl.specs.Table.{Event, Any, Write, Same, Differs, call-label, return-label, statement-of, Table, empty-table, start, error, is-lawful}
 use Rattle.topl.specs.Runs.{so-far, closing, Error-at}
-use Rattle.topl.specs.Ledger.{Ledger, fresh, began, turned, broken-at, Answer, begun, no-event, no-source, says, verdict-is, wrote, unwritten, refused, Source, registers-of}
-use Rattle.topl.specs.History.{Call, to-begin, to-feed, to-draw, to-close, ask-verdict, ask-path, Moment, made, Log, History, In-language}
-use Rattle.topl.specs.Days.{Only, number, call-of, return-of, still-running, found-broken, watch-refusal, refused-for, all-fed, board, begun-over, alone, Day, stale, stale-day, applied, wait, gpr, gprz, first-path}
+use Rattle.topl.specs.Ledger.{Ledger, fresh, began, turned, broken-at, begun, no-event, no-source, says, verdict-is, wrote, unwritten, refused, Source, registers-of}
+use Rattle.topl.specs.History.{to-begin, to-feed, to-draw, to-close, ask-verdict, ask-path, Moment, made, In-language}
+use Rattle.topl.specs.Days.{Only, number, call-of, return-of, still-running, found-broken, watch-refusal, refused-for, all-fed, board, begun-over, alone, Day, stale, applied, wait, gpr, gprz, first-path}
 
 -- PROPERTIES
 -- start -> error: call m(<Limit>), with m 1. The constant is register 0.

@@ -4,21 +4,20 @@ use mathlib.Core.Path.{_≡_}
 use mathlib.Core.Logic.{_⊎_, _↔_}
 use mathlib.Core.Bool.{Bool, true, false, cond}
 use mathlib.Core.List.{List, [], _∷_, _++_, map}
-use lib.ListN.{length, set, take, drop}
+use lib.ListN.{set, take, drop}
 use Rattle.std.specs.Finite.{nth}
 use Rattle.std.specs.declared.option.Option.{Option}
 use Rattle.std.specs.declared.option.Option.the-variants.{Some, None}
 use Rattle.kinds.specs.declared.phase.Phase.{Phase}
 use Rattle.kinds.specs.declared.phase.Phase.the-variants.{Blank, Running, Broken, Spilled, Full, Kept}
-use Rattle.kinds.specs.declared.refusal.Reason.{Reason}
 use Rattle.kinds.specs.declared.refusal.Reason.the-variants.{WildId, TooManyValues, Watch as of-watch}
 use Rattle.kinds.specs.declared.watch_reason.WatchReason.the-variants.{BegunAlready, BadCap, OtherConstants, SmallBoard, OtherArity}
 use Rattle.topl.specs.Lists.{Class, _∈_}
 use Rattle.topl.specs.Automata.{High-language}
-use Rattle.topl.specs.Table.{Event, Lawful-event, calls, most-values, Statement, Table, numbered, error, Lawful}
+use Rattle.topl.specs.Table.{Event, Lawful-event, calls, most-values, Table, Lawful}
 use Rattle.topl.specs.Translation.{letter, automaton-of}
-use Rattle.topl.specs.Runs.{Configuration, World, Mode, settled, closed, so-far, closing, Error-at}
-use Rattle.topl.specs.Ledger.{Ledger, fresh, registers-of, world-of, broken-at, Answer, begun, no-event, no-source, says, verdict-is, wrote, unwritten, refused, opening-reason, count-reason, phase-reason, event-reason, feed-reason, rule, with-event, Begins, Feeds, Closes, Source, Draws, Allowed, path-on, verdict}
+use Rattle.topl.specs.Runs.{World, Mode, settled, closed, so-far, closing, Error-at}
+use Rattle.topl.specs.Ledger.{Ledger, fresh, registers-of, world-of, Answer, begun, no-event, no-source, says, verdict-is, wrote, unwritten, refused, opening-reason, count-reason, phase-reason, event-reason, feed-reason, rule, with-event, Begins, Feeds, Closes, Source, Draws, Allowed, path-on, verdict}
 use Rattle.topl.specs.Deciding.{breaks, spills, overfills, goes-on, decides}
 use Rattle.topl.specs.Theorems.{Steady}
 

@@ -1,5 +1,5 @@
 -- The ledger with which a watch is compared: what it keeps, what each call answers and what it leaves.
-use Prim.Native.Nat.{ℕ, zero, suc, _+_, _*_, _/_, min}
+use Prim.Native.Nat.{ℕ, _+_, _*_, _/_, min}
 use mathlib.Core.Path.{_≡_}
 use mathlib.Core.Bool.{Bool, true, false, cond, not, _&&_, _||_}
 use Rattle.std.specs.declared.option.Option.{Option}
@@ -12,14 +12,13 @@ use Rattle.kinds.specs.declared.phase.Phase.the-variants.{Blank, Running, Broke
 use Rattle.kinds.specs.declared.refusal.Layer.the-variants.{Watch}
 use Rattle.kinds.specs.declared.refusal.Reason.{Reason}
 use Rattle.kinds.specs.declared.refusal.Reason.the-variants.{WildId, TooManyValues, Watch as of-watch}
-use Rattle.kinds.specs.declared.watch_reason.WatchReason.{WatchReason}
 use Rattle.kinds.specs.declared.watch_reason.WatchReason.the-variants.{NotBegun, BegunAlready, BadCap, OtherConstants, SmallBoard, OtherArity, IsBroken, IsSpilled, IsFull, IsKept, NotBroken, SmallPage}
 use Rattle.kinds.specs.declared.refusal.Refusal.{Refusal}
 use Rattle.kinds.specs.declared.refusal.Ending.{Ending}
 use Rattle.kinds.specs.declared.refusal.Ending.the-variants.{End, Refused}
 use Rattle.topl.specs.Lists.{Class, nothing}
 use Rattle.topl.specs.Table.{Event, calls, most-values, Table, empty-table, register-count, error}
-use Rattle.topl.specs.Runs.{Registers, Configuration, Mode, settled, closed, World, so-far, closing, Reach}
+use Rattle.topl.specs.Runs.{Registers, Configuration, Mode, settled, World, so-far, closing, Reach}
 use Rattle.topl.specs.Deciding.{Ruling, breaks, spills, overfills, goes-on, decides}
 
 -- values put into registers, one after the other

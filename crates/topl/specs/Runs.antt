@@ -1,12 +1,11 @@
 -- Runs of a property over a list of events.
 use Prim.Native.Nat.{ℕ, zero, suc, _+_, _<_}
 use mathlib.Core.Path.{_≡_}
-use mathlib.Core.Logic.{_⊎_}
 use mathlib.Core.Bool.{Bool, true, false, cond, not, _&&_}
 use mathlib.Core.List.{List, [], _∷_, _++_, map}
-use lib.ListN.{length, getD, set, drop}
-use lib.Dec.{eqb, T}
-use Rattle.topl.specs.Lists.{Class, nothing, alike, same-class, _∈_, each, holds, once}
+use lib.ListN.{length, set, drop}
+use lib.Dec.{eqb}
+use Rattle.topl.specs.Lists.{Class, alike, same-class, _∈_, each, once}
 use Rattle.topl.specs.Table.{Event, at, places, Pattern, Any, Write, Same, Differs, Matcher, any-event, event-of, Statement, Table, numbered, matchers, span, start, error}
 
 -- the classes that the registers hold

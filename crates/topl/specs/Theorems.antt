@@ -1,14 +1,14 @@
 -- The theorems on runs, the language and the deciding rule.
 use Prim.Native.Nat.{ℕ, suc, _+_, _-_, _≤_, _<_}
 use mathlib.Core.Path.{_≡_}
-use mathlib.Core.Bool.{Bool, true, cond, _||_}
+use mathlib.Core.Bool.{true, cond, _||_}
 use mathlib.Core.Option.{some}
 use mathlib.Core.Logic.{_⊎_, _↔_}
 use mathlib.Core.List.{List, [], _∷_, _++_, map}
 use lib.ListN.{length, getD}
 use Rattle.topl.specs.Lists.{Class, nothing, _∈_, each, Distinct, holds, apart}
 use Rattle.topl.specs.Automata.{High-language}
-use Rattle.topl.specs.Table.{Event, at, calls, places, Label, label-matchers, statement-of, matchers, Statement, Table, numbered, span, error, Lawful, is-lawful}
+use Rattle.topl.specs.Table.{Event, at, calls, places, Label, label-matchers, statement-of, matchers, Table, error, Lawful, is-lawful}
 use Rattle.topl.specs.Translation.{letter, automaton-of}
 use Rattle.topl.specs.Runs.{Registers, Configuration, World, so-far, closing, Move, first-configuration, Reach, Reaches, Error-at, alikeᶜ, runs, reached}
 use Rattle.topl.specs.Rows.{Stands, incoming, replay}
