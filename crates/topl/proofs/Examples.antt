@@ -13,7 +13,7 @@ use Rattle.topl.specs.Deciding.{any-error}
 use Rattle.topl.specs.Ledger.{registers-of, rule}
 use Rattle.topl.specs.History.{made}
 use Rattle.topl.specs.Days.{applied, begun-over, board, first-path, gpr, gprz, number, stale, wait}
-use Rattle.topl.specs.Examples.{Accepted, Examples, Excluded, at-once, consecutive, cut-source, fifth, interrupted, joined, limited, odd-source, reads-earlier, reads-itself, returned-other, rewritten}
+use Rattle.topl.specs.Examples.{Accepted, Examples, Excluded, at-once, consecutive, cut-source, day-source, fifth, interrupted, joined, limited, odd-source, reads-earlier, reads-itself, returned-other, rewritten}
 use Rattle.topl.proofs.Lawful.{tested}
 use Rattle.topl.proofs.Language.{recognizes}
 use Rattle.topl.proofs.Enumerate.{enumerates}
@@ -31,6 +31,9 @@ examples = record {
   void-differs = only-so (made board 16384 []) _ (1 ∷ 2 ∷ []) (tt also tt also only-run (begun-over 16384 returned-other [] 64) _ 2 _ refl also tt);
   draw-of-other-arity = only-so (made board 16384 (odd-source ∷ [])) _ [] (tt also tt also tt also tt also tt also tt also tt);
   refused-draw-takes-one = only-so (made board 16384 (odd-source ∷ [])) _ [] (tt also tt also tt);
+  drawn-day-breaks = only-so (made board 16384 (cut-source ∷ day-source ∷ [])) _ first-path
+      (tt also tt also tt also tt also only-run (begun-over 16384 stale [] 64) (so-far applied) 4 first-path refl also tt);
+  spilled-draw-takes-one = only-so (made board 16384 (day-source ∷ [])) _ [] (tt also tt also tt also tt also tt);
   ending-is-passed-on = only-so (made board 16384 (cut-source ∷ [])) _ [] (tt also tt also tt also tt also tt);
   not-begun = only-so (made board 16384 (cut-source ∷ [])) _ [] (tt also tt also tt also tt also tt);
   begun-already = only-so (made board 16384 []) _ [] (tt also tt also tt also tt);

@@ -2,7 +2,7 @@
 use Prim.Native.Nat.{ℕ}
 use mathlib.Core.Path.{_≡_}
 use mathlib.Core.List.{List, [], _∷_, _++_}
-use lib.ListN.{take, replicate}
+use lib.ListN.{take, drop, replicate}
 use Rattle.std.specs.declared.option.Option.the-variants.{None}
 use Rattle.kinds.specs.declared.phase.Phase.the-variants.{Blank, Running, Spilled, Full, Kept}
 use Rattle.kinds.specs.declared.refusal.Layer.the-variants.{Journal}
@@ -16,7 +16,7 @@ use Rattle.topl.specs.Table.{Event, Any, Write, Same, Differs, call-label, ret
 use Rattle.topl.specs.Runs.{so-far, closing, Error-at}
 use Rattle.topl.specs.Ledger.{Ledger, fresh, began, turned, broken-at, begun, no-event, no-source, says, verdict-is, wrote, unwritten, refused, Source, registers-of}
 use Rattle.topl.specs.History.{to-begin, to-feed, to-draw, to-close, ask-verdict, ask-path, Moment, made, In-language}
-use Rattle.topl.specs.Days.{Only, number, call-of, return-of, still-running, found-broken, watch-refusal, refused-for, all-fed, board, begun-over, alone, Day, stale, applied, wait, gpr, gprz, first-path}
+use Rattle.topl.specs.Days.{Only, number, call-of, return-of, still-running, found-broken, watch-refusal, refused-for, all-fed, board, begun-over, alone, Day, stale, applied, wait, gpr, gprz, first-path, stale-end}
 
 -- PROPERTIES
 -- start -> error: call m(<Limit>), with m 1. The constant is register 0.
@@ -72,6 +72,10 @@ cut = record { layer = Journal; reason = Cut; place = 7 }
 abbrev pub cut-source : Source
 cut-source = record { waiting = midnight ∷ []; ending = Refused cut }
 
+-- a source with the day that breaks Stale
+abbrev pub day-source : Source
+day-source = record { waiting = applied; ending = End }
+
 -- a watch with this ledger, and sources
 abbrev pub with-sources : Ledger → List Source → Moment
 with-sources l W = record { ledger = l; sources = W }
@@ -103,6 +107,14 @@ pub record Examples : Type 0 where
   pub refused-draw-takes-one : Only (made board 16384 (odd-source ∷ []))
       ((to-begin stale [] 64, begun) ∷ (to-draw 0, refused-for OtherArity 0) ∷ [])
       (with-sources (begun-over 16384 stale [] 64) (record { waiting = midnight ∷ []; ending = End } ∷ []))
+  -- a day that is drawn: it breaks as one that is fed, and the other source is not touched
+  pub drawn-day-breaks : Only (made board 16384 (cut-source ∷ day-source ∷ []))
+      ((to-begin stale [] 64, begun) ∷ (to-draw 1, still-running) ∷ (to-draw 1, still-running) ∷ (to-draw 1, still-running) ∷ (to-draw 1, found-broken 4) ∷ [])
+      (with-sources stale-end (cut-source ∷ record { waiting = []; ending = End } ∷ []))
+  -- an event whose draw spills is gone, and not judged
+  pub spilled-draw-takes-one : Only (made board 16384 (day-source ∷ []))
+      ((to-begin stale [] 1, begun) ∷ (to-draw 0, still-running) ∷ (to-draw 0, refused-for IsSpilled 1) ∷ (to-draw 0, refused-for IsSpilled 1) ∷ [])
+      (with-sources (turned (begun-over 16384 stale [] 1) Spilled (so-far (take 1 applied))) (record { waiting = drop 2 applied; ending = End } ∷ []))
   -- a source's refusal is passed on, at each draw
   pub ending-is-passed-on : Only (made board 16384 (cut-source ∷ []))
       ((to-begin stale [] 64, begun) ∷ (to-draw 0, still-running) ∷ (to-draw 0, refused cut) ∷ (to-draw 0, refused cut) ∷ [])
