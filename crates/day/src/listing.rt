@@ -1,16 +1,15 @@
 // The listing of a journal: its kind, a line for each event, and how it ends.
 ghost use mathlib.Core.Path.{_≡_};
+ghost use denote.Ref.{now as seen};
 ghost use mathlib.Core.List.{List, map};
 ghost use Prim.Native.Nat.{ℕ};
-ghost use lib.Chars.{codes};
 ghost use lib.Dec.{eqb};
 ghost use lib.ListN.{getD, length};
 ghost use Rattle.std.specs.Of.Vec.{vec-items};
+ghost use Rattle.std.specs.Options.{mapped};
 ghost use Rattle.std.specs.Vec.{made};
-ghost use Rattle.kinds.specs.Labels.{label-read, spelling};
-ghost use Rattle.kinds.specs.Numbers.{number-value};
-ghost use Rattle.day.specs.Lines.{Writes, ended, number-shown};
-ghost use Rattle.day.specs.Listing.{Lists, event-line, journal-lists, kind-line, last-line, lines-of, listing-as, verb-of};
+ghost use Rattle.day.specs.Lines.{Writes, ended};
+ghost use Rattle.day.specs.Listing.{Journal-listed, Labels-listed, Numbers-listed, event-line, kind-line, last-line, lines-of, listing-as, verb-of};
 ghost use Rattle.sources.specs.Sayings.{says};
 use crate::page::Page;
 use crate::shown::LabelsShown;
@@ -21,6 +20,8 @@ use kinds::labels::LabelsKind;
 use kinds::numbers::Numbers;
 use kinds::numbers::NumbersKind;
 use kinds::refusal::Ending;
+use narrow::filter::Narrow;
+use narrow::filter::NarrowSource;
 use sources::drain::Drained;
 use sources::drain::drain;
 use sources::event::Event;
@@ -111,42 +112,58 @@ fn print_source<K: Shown, S: Source<K>>(
     print_day::<K>(page, &day)
 }
 
-// Prints a journal of one kind.
+// Prints a journal of one kind, all of it or the events of some methods.
 macro_rules! print_journal {
-    ($kind:ty, $heap:expr, $page:expr, $bytes:expr) => {
+    ($kind:ty, $heap:expr, $page:expr, $bytes:expr, $methods:expr) => {
         match Journal::<$kind>::open($bytes) {
-            Ok(journal) => {
-                let mut journal = journal;
-                print_source::<$kind, Journal<$kind>>($heap, $page, &mut journal)
-            }
+            Ok(journal) => match $methods {
+                Some(methods) => {
+                    let mut narrow = Narrow::new(journal, methods);
+                    print_source::<$kind, Narrow<Journal<$kind>>>($heap, $page, &mut narrow)
+                }
+                None => {
+                    let mut journal = journal;
+                    print_source::<$kind, Journal<$kind>>($heap, $page, &mut journal)
+                }
+            },
             Err(refusal) => $page.refusal(&refusal),
         }
     };
 }
 
 // Prints a journal of numbers.
-fn print_numbers(heap: Global, page: &mut Page, bytes: &[u8]) -> Result<(), AllocError>
-    ensures { λ r. ⌜ ((out : List ℕ) × Lists 1 number-value (codes "numbers") number-shown (now (bytes .entry)) out × Writes r (now (page .entry)) out (now (page .exit))) ⌝ }
+fn print_numbers(
+    heap: Global,
+    page: &mut Page,
+    bytes: &[u8],
+    methods: Option<&[u16]>,
+) -> Result<(), AllocError>
+    ensures { λ r. ⌜ ((out : List ℕ) × Numbers-listed (mapped seen (methods .entry)) (now (bytes .entry)) out × Writes r (now (page .entry)) out (now (page .exit))) ⌝ }
 {
-    print_journal!(Numbers, heap, page, bytes)
+    print_journal!(Numbers, heap, page, bytes, methods)
 }
 
 // Prints a journal of labels.
-fn print_labels(heap: Global, page: &mut Page, bytes: &[u8]) -> Result<(), AllocError>
-    ensures { λ r. ⌜ ((out : List ℕ) × Lists 2 label-read (codes "labels") spelling (now (bytes .entry)) out × Writes r (now (page .entry)) out (now (page .exit))) ⌝ }
+fn print_labels(
+    heap: Global,
+    page: &mut Page,
+    bytes: &[u8],
+    methods: Option<&[u16]>,
+) -> Result<(), AllocError>
+    ensures { λ r. ⌜ ((out : List ℕ) × Labels-listed (mapped seen (methods .entry)) (now (bytes .entry)) out × Writes r (now (page .entry)) out (now (page .exit))) ⌝ }
 {
-    print_journal!(Labels, heap, page, bytes)
+    print_journal!(Labels, heap, page, bytes, methods)
 }
 
-// The listing of a journal, whose second byte chooses the kind.
-pub fn listing(heap: Global, bytes: &[u8]) -> Result<Vec<u8>, AllocError>
-    ensures { λ r. ⌜ made r (λ out. journal-lists (now (bytes .entry)) (vec-items out)) ⌝ }
+// The listing of a journal, whose second byte chooses the kind: of all its events, or of those of some methods.
+pub fn listing(heap: Global, bytes: &[u8], methods: Option<&[u16]>) -> Result<Vec<u8>, AllocError>
+    ensures { λ r. ⌜ made r (λ out. Journal-listed (mapped seen (methods .entry)) (now (bytes .entry)) (vec-items out)) ⌝ }
 {
     let mut page = Page::new(heap);
     if names_labels(bytes) {
-        print_labels(heap, &mut page, bytes)?;
+        print_labels(heap, &mut page, bytes, methods)?;
     } else {
-        print_numbers(heap, &mut page, bytes)?;
+        print_numbers(heap, &mut page, bytes, methods)?;
     }
     Ok(page.into_bytes())
 }
