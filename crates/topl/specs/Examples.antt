@@ -1,4 +1,4 @@
--- Further worked histories, one for each clause of the rules that no worked day shows, and the readings that the rules exclude.
+-- Further worked histories, for clauses of the rules that no worked day shows, and the readings that the rules exclude.
 use Prim.Native.Nat.{ℕ}
 use mathlib.Core.Path.{_≡_}
 use mathlib.Core.List.{List, [], _∷_, _++_}

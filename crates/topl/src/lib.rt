@@ -96,7 +96,7 @@ pub fn worked_days_hold()
     ensures { λ _. ⌜ Worked ⌝ }
 {}
 
-// A worked history for each clause that no worked day shows.
+// Worked histories for clauses that no worked day shows.
 pub fn worked_examples_hold()
     ensures { λ _. ⌜ Examples ⌝ }
 {}
