@@ -1,19 +1,20 @@
 -- How calls come about: the ways in which code proves them, and in which they are taken apart.
-use Prim.Native.Nat.{ℕ, _<_}
+use Prim.Native.Nat.{ℕ}
 use native.Mathlib.Omega.{arith}
 use mathlib.Core.Path.{_≡_, refl, sym, ap, subst, _∙_}
-use mathlib.Core.Logic.{_⊎_, inl, inr, ⊎-elim}
-use mathlib.Core.List.{List, [], _∷_, _++_}
+use mathlib.Core.Logic.{_⊎_, inl, inr}
+use mathlib.Core.List.{List, [], _∷_}
 use Rattle.std.specs.declared.option.Option.{Option}
 use Rattle.std.specs.declared.option.Option.the-variants.{Some, None}
 use Rattle.kinds.specs.declared.phase.Phase.{Phase}
 use Rattle.kinds.specs.declared.phase.Phase.the-variants.{Blank, Running, Broken, Spilled, Full, Kept}
 use Rattle.kinds.specs.declared.refusal.Reason.{Reason}
+use Rattle.kinds.specs.declared.refusal.Ending.{Ending}
 use Rattle.topl.specs.Lists.{Class}
 use Rattle.topl.specs.Table.{Event, Table}
 use Rattle.topl.specs.Runs.{closing}
 use Rattle.topl.specs.Deciding.{Ruling}
-use Rattle.topl.specs.Ledger.{Answer, Begins, Closes, Draws, Feeds, Ledger, Settles, Source, began, begin-reason, begun, draws-by, event-reason, feed-reason, or-reason, phase-reason, refuse, rule, unless, with-event}
+use Rattle.topl.specs.Ledger.{Answer, Begins, Closes, Draws, Feeds, Ledger, Settles, Source, began, begin-reason, begun, draws-by, event-reason, feed-reason, or-reason, passed-on, phase-reason, refuse, rule, unless, with-event}
 
 -- a call is refused, or does what it does
 pub refused-or : (l : Ledger) (does : Ledger × Answer → Type 0) (o : Option Reason) (r : Ledger × Answer) → unless l o does r →
@@ -30,6 +31,10 @@ when-not l does o r e d = subst (λ (z : Option Reason). unless l z does r) (sym
 -- where it is refused there is one answer
 pub is-refused : (l : Ledger) (does : Ledger × Answer → Type 0) (o : Option Reason) (n : Reason) (r : Ledger × Answer) → o ≡ Some n → unless l o does r → r ≡ (l, refuse l n)
 is-refused l does o n r e u = subst (λ (z : Option Reason). unless l z does r) e u
+
+-- where it is not, it does what it does
+pub is-none : (l : Ledger) (does : Ledger × Answer → Type 0) (o : Option Reason) (r : Ledger × Answer) → o ≡ None → unless l o does r → does r
+is-none l does o r e u = subst (λ (z : Option Reason). unless l z does r) e u
 
 module _ (l : Ledger) where
   -- a begin is refused, or begins
@@ -60,6 +65,16 @@ module _ (l : Ledger) where
   closes-ruled x r i k s =
       when-not l (Settles l (closing (l .judged)) Kept (rule l (closing (l .judged)))) (phase-reason (l .phase)) r (ap phase-reason i)
       (subst (λ (z : Ruling). Settles l (closing (l .judged)) Kept z r) (sym k) s)
+
+  -- a draw is refused by the phase, finds no event, or feeds the first
+  pub draws-not : (s : Source) (n : Reason) → phase-reason (l .phase) ≡ Some n → Draws l s (l, refuse l n) s
+  draws-not s n i = subst (λ (o : Option Reason). draws-by o l s (l, refuse l n) s) (sym i) (refl, refl)
+
+  pub draws-none : (end : Ending) → l .phase ≡ Running → Draws l (record { waiting = []; ending = end }) (l, passed-on end) (record { waiting = []; ending = end })
+  draws-none end i = subst (λ (q : Phase). draws-by (phase-reason q) l (record { waiting = []; ending = end }) (l, passed-on end) (record { waiting = []; ending = end })) (sym i) (refl, refl)
+
+  pub draws-fed : (e : Event) (es : List Event) (end : Ending) (r : Ledger × Answer) → l .phase ≡ Running → Feeds l e r → Draws l (record { waiting = e ∷ es; ending = end }) r (record { waiting = es; ending = end })
+  draws-fed e es end r i f = subst (λ (q : Phase). draws-by (phase-reason q) l (record { waiting = e ∷ es; ending = end }) r (record { waiting = es; ending = end })) (sym i) (f, refl)
 
   -- the other way round
   pub fed-parts : (e : Event) (r : Ledger × Answer) → Feeds l e r →

@@ -1,9 +1,9 @@
 -- What one call changes.
-use Prim.Native.Nat.{ℕ, zero, suc, _<_}
+use Prim.Native.Nat.{ℕ, zero, suc}
 use native.Mathlib.Omega.{arith}
 use mathlib.Core.Path.{_≡_, refl, sym, ap, subst, _∙_}
-use mathlib.Core.Logic.{_⊎_, inl, inr, ⊎-elim}
-use mathlib.Core.Bool.{Bool, true, false, cond, not}
+use mathlib.Core.Logic.{⊎-elim}
+use mathlib.Core.Bool.{Bool, true, false, cond}
 use mathlib.Core.List.{List, [], _∷_, _++_, append-nil}
 use lib.ListN.{length, set, take, drop}
 use lib.Dec.{ltb}
@@ -15,7 +15,7 @@ use Rattle.kinds.specs.declared.phase.Phase.the-variants.{Blank, Running, Broke
 use Rattle.kinds.specs.declared.refusal.Reason.{Reason}
 use Rattle.kinds.specs.declared.refusal.Refusal.{Refusal}
 use Rattle.kinds.specs.declared.refusal.Reason.the-variants.{Watch as of-watch}
-use Rattle.kinds.specs.declared.watch_reason.WatchReason.the-variants.{NotBegun, IsBroken, IsSpilled, IsFull, IsKept, NotBroken, SmallPage}
+use Rattle.kinds.specs.declared.watch_reason.WatchReason.the-variants.{NotBegun, IsBroken, IsSpilled, IsFull, IsKept, SmallPage}
 use Rattle.kinds.specs.declared.refusal.Ending.{Ending}
 use Rattle.kinds.specs.declared.refusal.Ending.the-variants.{End, Refused}
 use Rattle.topl.specs.Lists.{Class}

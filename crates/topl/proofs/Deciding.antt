@@ -1,9 +1,8 @@
 -- The deciding rule, over runs.
 use Prim.Native.Nat.{ℕ, zero, suc, _+_, _≤_, _<_}
 use native.Mathlib.Omega.{arith}
-use native.Mathlib.Nat.{not-suc-le-zero}
 use mathlib.Core.Path.{_≡_, refl, sym, ap, subst, _∙_}
-use mathlib.Core.Logic.{_↔_, _⊎_, inl, inr, ⊎-elim}
+use mathlib.Core.Logic.{_⊎_, inl, inr, ⊎-elim}
 use mathlib.Core.Bool.{Bool, true, false, cond, _||_, true≢false, false≢true}
 use mathlib.Core.List.{List, [], _∷_, List·Memᴰ·head, List·Memᴰ·tail, List·Memᴰ·not-nil, List·Memᴰ·cases-cons}
 use lib.ListN.{length}
@@ -57,7 +56,7 @@ is-goes-on false true c p e = absurd (omega (arith, ap tag e))
 is-goes-on false false true p e = absurd (omega (arith, ap tag e))
 is-goes-on false false false p e = (refl, refl, refl)
 
--- the first-ruling ruling that is one
+-- the first ruling that decides
 or-else-cases : (x y r : Ruling) → or-else x y ≡ r → (x ≡ r) ⊎ ((x ≡ goes-on) × (y ≡ r))
 or-else-cases (breaks p) y r e = inl e
 or-else-cases spills y r e = inl e

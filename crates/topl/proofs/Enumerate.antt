@@ -3,12 +3,12 @@ use Prim.Native.Nat.{ℕ, zero, suc, _+_, _-_, _≤_, _<_}
 use native.Mathlib.Omega.{arith}
 use mathlib.Core.Path.{_≡_, refl, sym, ap, subst, subst₂, _∙_}
 use mathlib.Core.Logic.{_⊎_, inl, inr, ⊎-elim, _↔_}
-use mathlib.Core.Bool.{Bool, true, false, cond, _&&_, true≢false, false≢true}
-use mathlib.Core.List.{List, [], _∷_, _++_, map, List·Memᴰ, List·Memᴰ·head, List·Memᴰ·tail, List·Memᴰ·not-nil, List·Memᴰ·append-cases, List·Memᴰ·cases-cons, List·Memᴰ·eq-of-singleton, Memᴰ·append-left, Memᴰ·append-right, Memᴰ·cast, Memᴰ·map, Memᴰ·of-map}
+use mathlib.Core.Bool.{Bool, true, false, cond, _&&_, false≢true}
+use mathlib.Core.List.{List, [], _∷_, _++_, map, List·Memᴰ·head, List·Memᴰ·tail, List·Memᴰ·not-nil, List·Memᴰ·append-cases, List·Memᴰ·cases-cons, List·Memᴰ·eq-of-singleton, Memᴰ·append-left, Memᴰ·append-right, Memᴰ·map, Memᴰ·of-map}
 use lib.ListN.{length, drop, length-drop}
 use lib.Dec.{eqb}
 use borrow.Author.Tests.{eqb-true, eq-eqb}
-use Rattle.std.proofs.shelf.Tests.{and-parts, and-from, cond-true, cases-lt}
+use Rattle.std.proofs.shelf.Tests.{and-parts, and-from, cases-lt}
 use Rattle.topl.specs.Lists.{Distinct, _∈_, each, once}
 use Rattle.topl.specs.Table.{Event, Statement, Table, at, numbered, span}
 use Rattle.topl.specs.Runs.{Configuration, Landing, Lets-skip, Mode, Move, Outcome, Reach, Reaches, Registers, Run, World, alikeᶜ, arrivals, at-start, calm, closed, fails, hangs, has-come, landing-of, layers, moves, onto, onward, outcome-of, pass, passes, passing, quiet, reached, runs, settled, skip}

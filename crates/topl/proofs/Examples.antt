@@ -1,19 +1,21 @@
 -- The further examples, computed.
 use Prim.Native.Nat.{ℕ, zero, suc, _≤_, _<_}
 use native.Mathlib.Omega.{arith}
-use mathlib.Core.Path.{_≡_, refl, sym, ap, subst, _∙_}
-use mathlib.Core.Logic.{_⊎_, inl, inr, ⊎-elim}
+use mathlib.Core.Path.{_≡_, refl, sym, subst, _∙_}
+use mathlib.Core.Logic.{_⊎_, inl, inr}
 use mathlib.Core.Bool.{Bool, true, false, cond, true≢false, false≢true}
-use mathlib.Core.List.{List, [], _∷_, _++_}
+use mathlib.Core.List.{List, [], _∷_}
 use lib.ListN.{length}
 use Rattle.std.proofs.shelf.Tests.{cases-lt}
-use Rattle.topl.specs.Table.{Table}
+use Rattle.topl.specs.Table.{Event, Table, is-lawful}
 use Rattle.topl.specs.Runs.{Error-at, Registers, World, closing, reached, runs, so-far}
 use Rattle.topl.specs.Deciding.{any-error}
-use Rattle.topl.specs.Ledger.{rule}
+use Rattle.topl.specs.Ledger.{registers-of, rule}
 use Rattle.topl.specs.History.{made}
 use Rattle.topl.specs.Days.{applied, begun-over, board, first-path, gpr, gprz, number, stale, wait}
-use Rattle.topl.specs.Examples.{Examples, Excluded, cut-source, fifth, joined, limited, odd-source, returned-other, rewritten}
+use Rattle.topl.specs.Examples.{Accepted, Examples, Excluded, at-once, consecutive, cut-source, day-source, fifth, interrupted, joined, limited, odd-source, reads-earlier, reads-itself, returned-other, rewritten}
+use Rattle.topl.proofs.Lawful.{tested}
+use Rattle.topl.proofs.Language.{recognizes}
 use Rattle.topl.proofs.Enumerate.{enumerates}
 use Rattle.topl.proofs.Persist.{reach-bound}
 use Rattle.topl.proofs.Deciding.{any-error-sound, any-error-complete}
@@ -22,12 +24,16 @@ use Rattle.topl.proofs.Sole.{only-run, only-so, _also_}
 pub examples : Examples
 unfolding rule runs reached
 examples = record {
+  all-lawful = refl;
   constant-is-set = only-so (made board 16384 []) _ (65 ∷ 1 ∷ []) (tt also tt also only-run (begun-over 16384 limited (number 7 ∷ []) 64) _ 2 _ refl also tt);
   fifth-parameter = only-so (made board 16384 []) _ (1 ∷ 0 ∷ 2 ∷ []) (tt also tt also tt also only-run (begun-over 16384 fifth [] 64) _ 3 _ refl also tt);
   void-is-not-same = only-so (made board 16384 []) _ [] (tt also tt also tt also tt also tt);
   void-differs = only-so (made board 16384 []) _ (1 ∷ 2 ∷ []) (tt also tt also only-run (begun-over 16384 returned-other [] 64) _ 2 _ refl also tt);
   draw-of-other-arity = only-so (made board 16384 (odd-source ∷ [])) _ [] (tt also tt also tt also tt also tt also tt also tt);
   refused-draw-takes-one = only-so (made board 16384 (odd-source ∷ [])) _ [] (tt also tt also tt);
+  drawn-day-breaks = only-so (made board 16384 (cut-source ∷ day-source ∷ [])) _ first-path
+      (tt also tt also tt also tt also only-run (begun-over 16384 stale [] 64) (so-far applied) 4 first-path refl also tt);
+  spilled-draw-takes-one = only-so (made board 16384 (day-source ∷ [])) _ [] (tt also tt also tt also tt also tt);
   ending-is-passed-on = only-so (made board 16384 (cut-source ∷ [])) _ [] (tt also tt also tt also tt also tt);
   not-begun = only-so (made board 16384 (cut-source ∷ [])) _ [] (tt also tt also tt also tt also tt);
   begun-already = only-so (made board 16384 []) _ [] (tt also tt also tt also tt);
@@ -39,6 +45,10 @@ examples = record {
       (tt also tt also tt also tt also only-run (begun-over 16384 stale [] 64) (so-far applied) 4 first-path refl also tt also tt also tt also tt also tt also tt also tt);
   once-kept = only-so (made board 16384 (cut-source ∷ [])) _ [] (tt also tt also tt also tt also tt also tt also tt);
   unlawful-events = only-so (made board 16384 []) _ [] (tt also tt also tt also tt also tt also tt also tt also tt);
+  error-comes-first = only-so (made board 1 []) _ (1 ∷ []) (tt also only-run (begun-over 1 at-once [] 1) _ 1 _ refl also tt);
+  lowest-position-decides = only-so (made board 16384 []) _ [] (tt also tt also tt also tt also tt also tt);
+  need-counts-what-was = only-so (made board 5 []) _ [] (tt also tt also tt also tt also tt also tt);
+  book-of-six-waits = only-so (made board 6 []) _ (1 ∷ 0 ∷ 3 ∷ []) (tt also tt also tt also tt also only-run (begun-over 6 wait [] 2) _ 3 _ refl also tt);
   empty-table-keeps = only-so (made board 16384 []) _ [] (tt also tt also tt also tt);
 }
 
@@ -70,10 +80,19 @@ none-at P k w (suc n) e p l x = go (λ i m. none-at P k w n i p m x) (any-error 
 none-anywhere : (P : Table) (k : Registers) (w : World) → any-at P k w (suc (length (w .events))) ≡ false → ¬ ((p : ℕ) × Error-at P k w p)
 none-anywhere P k w e (p, x) = let b = reach-bound (x .2 .1) in none-at P k w (suc (length (w .events))) e p (omega arith) x
 
+-- of a lawful table, the language by computing
+accepted : (P : Table) (es : List Event) → is-lawful P ≡ true → any-at P (registers-of (begun-over 16384 P [] 64)) (closing es) (suc (length es)) ≡ true → Accepted P es
+accepted P es l e =
+    recognizes P (registers-of (begun-over 16384 P [] 64)) es (tested P .0 l) .1 (found-at P (registers-of (begun-over 16384 P [] 64)) (closing es) (suc (length es)) e)
+
+not-accepted : (P : Table) (es : List Event) → is-lawful P ≡ true → any-at P (registers-of (begun-over 16384 P [] 64)) (closing es) (suc (length es)) ≡ false → ¬ Accepted P es
+not-accepted P es l e x =
+    none-anywhere P (registers-of (begun-over 16384 P [] 64)) (closing es) e (recognizes P (registers-of (begun-over 16384 P [] 64)) es (tested P .0 l) .0 x)
+
 pub excluded : Excluded
 unfolding runs reached
 excluded = record {
-  no-hasty-skip = (found-at wait _ (closing gpr) 4 refl, none-anywhere wait _ (so-far gpr) refl, none-anywhere wait _ (closing gprz) refl);
-  reads-come-first = (found-at rewritten _ (closing _) 3 refl, none-anywhere rewritten _ (closing _) refl);
-  undeclared-calls-count = (found-at joined _ (closing _) 3 refl, none-anywhere joined _ (closing _) refl);
+  no-hasty-skip = (accepted wait gpr refl refl, none-anywhere wait _ (so-far gpr) refl, not-accepted wait gprz refl refl);
+  reads-come-first = (accepted rewritten reads-earlier refl refl, not-accepted rewritten reads-itself refl refl);
+  undeclared-calls-count = (accepted joined consecutive refl refl, not-accepted joined interrupted refl refl);
 }

@@ -1,17 +1,17 @@
 -- What one more event, or the end of the list, adds to what is reached.
-use Prim.Native.Nat.{ℕ, zero, suc, _+_, _-_, _≤_, _<_}
+use Prim.Native.Nat.{ℕ, _+_, _-_, _≤_, _<_}
 use native.Mathlib.Omega.{arith}
-use mathlib.Core.Path.{_≡_, refl, sym, ap, subst, _∙_}
+use mathlib.Core.Path.{_≡_, refl, sym, _∙_}
 use mathlib.Core.Logic.{_⊎_, inl, inr, ⊎-elim, _↔_}
 use mathlib.Core.List.{List, [], _∷_, _++_}
-use lib.ListN.{length, drop, length-drop, length-append}
+use lib.ListN.{length, drop, length-drop}
 use lib.Seq.{drop-append-le}
 use Rattle.std.proofs.shelf.Tests.{cases-lt}
 use Rattle.topl.specs.Table.{Event, Statement, Table, matchers, span}
 use Rattle.topl.specs.Runs.{Configuration, Leaves, Move, Outcome, Reach, Reaches, Registers, World, at-start, closing, fails, hangs, onward, outcome-of, pass, passes, skip, so-far}
 use Rattle.topl.specs.Theorems.{Gained, Gains}
 use Rattle.topl.proofs.Lawful.{Short, lawful-short}
-use Rattle.topl.proofs.Persist.{fares-more, fares-enough, passes≢fails, move-bounds, reach-bound, Keeps, keeps-reach, keeps-longer, keeps-closing}
+use Rattle.topl.proofs.Persist.{fares-more, fares-enough, move-bounds, reach-bound, Keeps, keeps-reach, keeps-longer, keeps-closing}
 
 -- where all events that a statement can look at have come, the two worlds have the same moves
 abbrev Backs : Table → World → World → Type 0

@@ -2,9 +2,9 @@
 use Prim.Native.Nat.{ℕ, zero, suc, _+_, _-_, _≤_, _<_}
 use native.Mathlib.Omega.{arith}
 use native.Mathlib.Numerals.{add-one}
-use mathlib.Core.Path.{_≡_, refl, sym, ap, subst, subst₂, _∙_}
-use mathlib.Core.Logic.{_⊎_, inl, inr, ⊎-elim, _↔_}
-use mathlib.Core.List.{List, [], _∷_, _++_, map, List·Memᴰ, List·Memᴰ·head, List·Memᴰ·tail, List·Memᴰ·not-nil, List·Memᴰ·cases-cons, List·Memᴰ·eq-of-singleton, Memᴰ·map, Memᴰ·of-map, append-nil, append-assoc, cons≢nil, tail-eq-of-cons-eq}
+use mathlib.Core.Path.{_≡_, refl, sym, ap, subst, _∙_}
+use mathlib.Core.Logic.{⊎-elim}
+use mathlib.Core.List.{List, [], _∷_, _++_, map, List·Memᴰ·head, List·Memᴰ·eq-of-singleton, Memᴰ·map, Memᴰ·of-map, append-nil, append-assoc, cons≢nil, tail-eq-of-cons-eq}
 use lib.ListN.{length, take, drop, take-append-drop, length-drop, drop-of-length-le}
 use lib.Seq.{drop-drop}
 use Rattle.std.proofs.shelf.Tests.{cases-lt}
@@ -16,7 +16,7 @@ use Rattle.topl.specs.Runs.{Configuration, Error-at, Leaves, Reach, Reaches, R
 use Rattle.topl.specs.Theorems.{Recognizes}
 use Rattle.topl.proofs.Basics.{∈-each, ∈-once, eqb-tests}
 use Rattle.topl.proofs.Persist.{reach-bound}
-use Rattle.topl.proofs.Chain.{accepts-fires, fires-accepts}
+use Rattle.topl.proofs.Straight.{accepts-fires, fires-accepts}
 use Rattle.topl.proofs.Lawful.{lawful-final, lawful-once}
 use Rattle.topl.proofs.Translate.{AllKnown, passes-fires, fires-passes}
 

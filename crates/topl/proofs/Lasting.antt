@@ -1,18 +1,17 @@
 -- Every call keeps the ledger sound.
 use Prim.Native.Nat.{ℕ, zero, suc, _+_, _*_, _≤_, _<_, min}
 use native.Mathlib.Omega.{arith}
-use mathlib.Core.Path.{_≡_, refl, sym, ap, subst, _∙_}
-use mathlib.Core.Logic.{_↔_, _⊎_, inl, inr, ⊎-elim}
+use mathlib.Core.Path.{_≡_, refl, sym, ap, subst}
+use mathlib.Core.Logic.{⊎-elim}
 use mathlib.Core.Bool.{Bool, true, false, cond, not, _||_}
 use Rattle.std.specs.declared.option.Option.{Option}
 use Rattle.std.specs.declared.option.Option.the-variants.{Some, None}
 use mathlib.Core.List.{List, [], _∷_, _++_, List·Memᴰ·eq-of-singleton}
 use lib.ListN.{length}
 use lib.Dec.{eqb, ltb}
-use borrow.Author.Tests.{ltb-false, eqb-apart}
-use Rattle.std.proofs.shelf.Tests.{or-parts, cases-lt}
-use Rattle.kinds.specs.declared.phase.Phase.{Phase}
-use Rattle.kinds.specs.declared.phase.Phase.the-variants.{Running, Kept, Broken}
+use borrow.Author.Tests.{eqb-apart}
+use Rattle.std.proofs.shelf.Tests.{or-parts}
+use Rattle.kinds.specs.declared.phase.Phase.the-variants.{Running, Kept}
 use Rattle.kinds.specs.declared.refusal.Reason.{Reason}
 use Rattle.kinds.specs.declared.refusal.Reason.the-variants.{Watch as of-watch}
 use Rattle.kinds.specs.declared.watch_reason.WatchReason.the-variants.{BegunAlready, BadCap, OtherConstants, SmallBoard}
@@ -24,7 +23,7 @@ use Rattle.topl.specs.Deciding.{Ruling, breaks, count, goes-on, overfills, spi
 use Rattle.topl.specs.Ledger.{Answer, Begins, Closes, Feeds, Ledger, Settles, Source, Takes, began, begin-reason, draws-by, initial, is-blank, passed-on, phase-reason, refuse, registers-of, rule, with-event}
 use Rattle.topl.specs.Theorems.{Steady}
 use Rattle.topl.specs.History.{Stays-sound, Sound}
-use Rattle.topl.proofs.Persist.{persists, reach-bound}
+use Rattle.topl.proofs.Persist.{reach-bound}
 use Rattle.topl.proofs.Enumerate.{enumerates}
 use Rattle.topl.proofs.Deciding.{deciding}
 use Rattle.topl.proofs.Resume.{steady-on, beyond}

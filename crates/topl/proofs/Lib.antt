@@ -2,7 +2,7 @@ pub mod Basics
 pub mod Lawful
 pub mod Persist
 pub mod Enumerate
-pub mod Chain
+pub mod Straight
 pub mod Translate
 pub mod Language
 pub mod Deciding
@@ -28,3 +28,4 @@ pub mod Refusing
 pub mod Loops
 pub mod Moves
 pub mod Positions
+pub mod Ruled

@@ -1,15 +1,13 @@
 -- The moves out of a configuration, statement by statement, and what they bring to a position: the laws of the loops that make them.
-use Prim.Native.Nat.{ℕ, zero, suc, _+_, _-_, _*_, _<_, _≤_}
+use Prim.Native.Nat.{ℕ, zero, suc, _+_, _<_, _≤_}
 use native.Mathlib.Omega.{arith}
-use native.Mathlib.Nat.{add-suc}
-use mathlib.Core.Path.{_≡_, refl, sym, ap, ap₂, subst, _∙_}
-use mathlib.Core.Logic.{_⊎_, inl, inr, ⊎-elim}
-use mathlib.Core.Bool.{Bool, true, false, cond, not, _&&_, _||_}
-use mathlib.Core.List.{List, [], _∷_, _++_, map, append-assoc}
+use mathlib.Core.Path.{_≡_, refl, sym, ap, ap₂, _∙_}
+use mathlib.Core.Bool.{Bool, true, false, cond, _&&_}
+use mathlib.Core.List.{List, [], _∷_, _++_, append-assoc}
 use lib.ListN.{length, getD, take, drop}
 use lib.Dec.{eqb}
-use Rattle.std.proofs.shelf.Lists.{append-nil, take-more, take-all, drop-drop, drop-more, drop-all, take-append-drop}
-use Rattle.std.proofs.shelf.Tests.{and-parts, and-from, and-left, cond-true, cond-false, eq-eqb, ne-eqb}
+use Rattle.std.proofs.shelf.Lists.{append-nil, take-more, drop-drop, drop-more, drop-all, take-append-drop}
+use Rattle.std.proofs.shelf.Tests.{and-left, cond-true, cond-false, eq-eqb, ne-eqb}
 use Rattle.topl.specs.Lists.{each}
 use Rattle.topl.specs.Table.{Statement, Table, count-from, implied, matchers, numbered, span}
 use Rattle.topl.specs.Runs.{Configuration, Landing, Mode, Outcome, Registers, World, calm, calms, fails, fares, hangs, has-come, landing-of, lands, moves, outcome-of, passes, passing, quiet, skips}

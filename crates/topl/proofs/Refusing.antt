@@ -4,9 +4,10 @@ use native.Mathlib.Omega.{arith}
 use mathlib.Core.Path.{_≡_, refl, sym, ap, subst, _∙_}
 use mathlib.Core.Logic.{_↔_, _⊎_, inl, inr, ⊎-elim}
 use mathlib.Core.Bool.{Bool, true, false, cond, not, _&&_, _||_, true≢false, false≢true}
-use mathlib.Core.List.{List, [], _∷_, List·Memᴰ·head, List·Memᴰ·tail, List·Memᴰ·not-nil, List·Memᴰ·cases-cons}
+use mathlib.Core.List.{List, [], _∷_, List·Memᴰ·head, List·Memᴰ·tail}
+use lib.ListN.{length}
 use lib.Dec.{eqb, ltb}
-use borrow.Author.Tests.{eqb-true, eq-eqb, eqb-apart, ne-eqb, ltb-true, ltb-false, lt-ltb, le-ltb, not-true}
+use borrow.Author.Tests.{eqb-true, eq-eqb, eqb-apart, ne-eqb, ltb-true, ltb-false, le-ltb, not-true}
 use Rattle.std.proofs.shelf.Tests.{and-parts, and-from, or-cases, or-left, or-right, or-parts, not-from-false}
 use Rattle.std.specs.declared.option.Option.{Option}
 use Rattle.std.specs.declared.option.Option.the-variants.{Some, None}
@@ -135,7 +136,7 @@ less-sorts : (a b : ℕ) → Sorts (ltb a b) (a < b) (b ≤ a)
 less-sorts a b = record { yes-so = λ h. ltb-true a b h; no-so = λ h. ltb-false a b h; apart-so = λ x y. omega arith }
 
 -- of the arity
-arity-sound : (ms : List (ℕ × ℕ)) (id n : ℕ) → other-arity ms id n ≡ true → (m : ℕ × ℕ) × (m ∈ ms) × (id / 2 ≡ m .0) × (¬ (n ≡ m .1))
+pub arity-sound : (ms : List (ℕ × ℕ)) (id n : ℕ) → other-arity ms id n ≡ true → (m : ℕ × ℕ) × (m ∈ ms) × (id / 2 ≡ m .0) × (¬ (n ≡ m .1))
 arity-sound [] id n h = absurd (false≢true h)
 arity-sound (m ∷ ms) id n h = go (arity-sound ms id n) (or-cases (eqb (id / 2) (m .0) && not (eqb n (m .1))) (other-arity ms id n) h)
   where
@@ -190,7 +191,7 @@ module _ (phase : Phase) (board book here-given wanted cap : ℕ) where
             (last-none d _ _ (room-sorts board (40 * cap + 64) book) (of-watch SmallBoard))));
       }
 
-event-refusals : (P : Table) (id n : ℕ) → Event-refusals P id n
+pub event-refusals : (P : Table) (id n : ℕ) → Event-refusals P id n
 event-refusals P id n =
     let a = ltb 131071 id in
     let b = ltb (most-values id) n in
@@ -212,5 +213,18 @@ event-refusals P id n =
           (last-none c _ _ (arity-sorts P id n) (of-watch OtherArity)));
     }
 
+-- a lawful event
+arity-alone : (a b c : Bool) → a ≡ false → b ≡ false →
+    (reason-if a WildId (reason-if b TooManyValues (reason-if c (of-watch OtherArity) None)) ≡ None) ⊎ (reason-if a WildId (reason-if b TooManyValues (reason-if c (of-watch OtherArity) None)) ≡ Some (of-watch OtherArity))
+arity-alone true b c h k = absurd (true≢false h)
+arity-alone false true c h k = absurd (true≢false k)
+arity-alone false false true h k = inr refl
+arity-alone false false false h k = inl refl
+
 pub refusing : Refusing
-refusing = (begin-refusals, event-refusals)
+refusing = (
+  begin-refusals,
+  event-refusals,
+  λ P e L. arity-alone (ltb 131071 (e .id)) (ltb (most-values (e .id)) (length (e .values))) (calls (e .id) && other-arity (P .methods) (e .id) (length (e .values))) (le-ltb 131071 (e .id) (L .known))
+      (le-ltb (most-values (e .id)) (length (e .values)) (L .carries)),
+)

@@ -1,24 +1,28 @@
 -- The settled runs of a list are the runs that every longer list keeps.
-use Prim.Native.Nat.{ℕ, zero, suc, _+_, _*_, _%_, _≤_, _<_}
+use Prim.Native.Nat.{ℕ, zero, suc, _+_, _≤_, _<_}
 use native.Mathlib.Omega.{arith}
 use mathlib.Core.Path.{_≡_, refl, sym, ap, subst, _∙_}
-use mathlib.Core.Logic.{_↔_, _⊎_, inl, inr, ⊎-elim}
-use mathlib.Core.Bool.{Bool, true, false, cond, not, _&&_, true≢false, false≢true}
+use mathlib.Core.Logic.{_⊎_, inl, inr, ⊎-elim}
+use mathlib.Core.Bool.{Bool, true, false, cond, true≢false}
 use mathlib.Core.Option.{Option, none, some}
-use mathlib.Core.List.{List, [], _∷_, _++_, map, append-nil, List·Memᴰ, List·Memᴰ·head, List·Memᴰ·tail, List·Memᴰ·not-nil, List·Memᴰ·cases-cons, List·Memᴰ·eq-of-singleton}
+use mathlib.Core.List.{List, [], _∷_, _++_, map, append-nil, List·Memᴰ·head, List·Memᴰ·tail, List·Memᴰ·not-nil, List·Memᴰ·cases-cons, List·Memᴰ·eq-of-singleton, Memᴰ·map}
 use lib.ListN.{length, getD, drop, length-map, length-append}
 use lib.Seq.{drop-append-le}
 use lib.Dec.{eqb}
-use borrow.Author.Tests.{eq-eqb, ne-eqb}
-use Rattle.std.proofs.shelf.Tests.{and-parts, and-from, not-from-false, cases-bool}
-use Rattle.topl.specs.Lists.{Class, _∈_, nothing, same-class}
-use Rattle.topl.specs.Table.{Any, Differs, Event, Lawful, Lawful-event, Matcher, Pattern, Same, Shaped, Statement, Table, Write, any-shaped, at, call-id, call-shaped, called, calls, implied, matchers, most-values, numbered, return-id, return-shaped, returned}
+use borrow.Author.Tests.{eq-eqb}
+use Rattle.std.proofs.shelf.Tests.{and-from, not-from-false}
+use Rattle.topl.proofs.Basics.{same-tests}
+use Rattle.topl.proofs.Lawful.{written-or-implied, call-half, is-call-id, is-return-id}
+use Rattle.topl.proofs.Refusing.{event-refusals}
+use Rattle.std.specs.declared.option.Option.the-variants.{None}
+use Rattle.topl.specs.Lists.{Class, Distinct, _∈_, nothing, same-class}
+use Rattle.topl.specs.Table.{Any, Differs, Event, Lawful, Matcher, Pattern, Same, Shaped, Statement, Table, Write, any-shaped, at, call-id, call-shaped, called, calls, implied, matchers, most-values, numbered, return-id, return-shaped, returned}
 use Rattle.topl.specs.Runs.{Configuration, Leaves, Lets-skip, Move, Outcome, Reach, Registers, World, closing, fails, fares, first-configuration, fits, fits-all, hangs, meets, outcome-of, pass, passes, skip, so-far, writes}
 use Rattle.topl.specs.Rows.{by-step, replay, then}
-use Rattle.topl.specs.Theorems.{All-lawful, Errs-by, Certain}
-use Rattle.topl.proofs.Basics.{same-tests}
-use Rattle.topl.proofs.Lawful.{written-or-implied, is-call-id, is-return-id}
-use Rattle.topl.proofs.Persist.{passes≢fails, passes≢hangs, fails≢hangs, fares-more, move-bounds, keeps-longer, keeps-closing, persists}
+use Rattle.topl.specs.Ledger.{event-reason}
+use Rattle.topl.specs.Theorems.{All-taken, Certain, Errs-by}
+use Rattle.topl.specs.History.{Wrong-count}
+use Rattle.topl.proofs.Persist.{passes≢hangs, fails≢hangs, move-bounds, keeps-longer, keeps-closing, persists}
 use Rattle.topl.proofs.Replays.{replays, numbers, some-same, none≢some, step-sound, step-complete}
 
 -- AN EVENT THAT MEETS A MATCHER
@@ -83,40 +87,66 @@ return-meets s m p =
     (subst (λ (b : Bool). fits s (at (cond b (nothing ∷ fitting s p ∷ []) (fitting s p ∷ [])) 0) p ≡ true) (sym (is-return-id m)) (fits-so s p)) refl)
 
 module _ (P : Table) (law : Lawful P) where
-  -- every matcher of the property is met by some lawful event
-  meeting : (s : Registers) {m : Matcher} → Shaped P m → (e : Event) × Lawful-event e × (meets s e m ≡ true)
-  meeting s any-shaped = (record { id = 0; values = [] }, record { known = omega arith; carries = omega arith }, refl)
+  -- a declared method has one arity
+  one-method : (ms : List (ℕ × ℕ)) (a b : ℕ × ℕ) → Distinct (map (λ m. m .0) ms) → a ∈ ms → b ∈ ms → a .0 ≡ b .0 → a ≡ b
+  one-method [] a b d i j e = absurd (List·Memᴰ·not-nil i)
+  one-method (m ∷ ms) a b d i j e = go (one-method ms a b (d .1)) (List·Memᴰ·cases-cons i) (List·Memᴰ·cases-cons j)
+    where
+      far : (c : ℕ × ℕ) → c ∈ ms → m .0 ≡ c .0 → ⊥
+      far c k f = d .0 (subst (λ (n : ℕ). n ∈ map (λ m. m .0) ms) (sym f) (Memᴰ·map (λ (m : ℕ × ℕ). m .0) k))
+
+      go : (a ∈ ms → b ∈ ms → a .0 ≡ b .0 → a ≡ b) → (a ≡ m) ⊎ (a ∈ ms) → (b ≡ m) ⊎ (b ∈ ms) → a ≡ b
+      go below (inl p) (inl q) = p ∙ sym q
+      go below (inl p) (inr q) = absurd (far b q ((λ k. sym p k .0) ∙ e))
+      go below (inr p) (inl q) = absurd (far a p ((λ k. sym q k .0) ∙ sym e))
+      go below (inr p) (inr q) = below p q e
+
+  right-count : (m : ℕ × ℕ) (n : ℕ) → m ∈ P .methods → n ≡ m .1 → ¬ Wrong-count P (call-id (m .0)) n
+  right-count m n i e (c, (d, j, k, f)) = f (e ∙ (λ x. one-method (P .methods) m d (law .numbers-distinct) i j (sym (call-half (m .0)) ∙ k) x .1))
+
+  no-call : (id n : ℕ) → calls id ≡ false → ¬ Wrong-count P id n
+  no-call id n e w = true≢false (sym (w .0) ∙ e)
+
+  -- every matcher of the property is met by some event that a watch takes
+  meeting : (s : Registers) {m : Matcher} → Shaped P m → (e : Event) × (event-reason P e ≡ None) × (meets s e m ≡ true)
+  meeting s any-shaped = (record { id = 1; values = [] }, event-refusals P 1 0 .is-none .1 (omega arith, (omega arith, no-call 1 0 refl)), refl)
   meeting s (call-shaped m ps i e) =
       let n = law .numbers m i in
       let a : m .0 ≤ 65535 = n .0 in
       let b : m .1 ≤ 5 = n .1 in
       let c : length (map (fitting s) ps) ≡ length ps = length-map ps (fitting s) in
-      let d : most-values (call-id (m .0)) ≡ 5 = ap (λ (z : Bool). cond z 5 1) (is-call-id (m .0)) in
-      (record { id = call-id (m .0); values = map (fitting s) ps }, record { known = omega arith; carries = omega arith }, call-meets s (m .0) ps (omega arith))
+      let d : most-values (call-id (m .0)) ≡ 5 = ap (λ (z : Bool). cond z 5 1) (is-call-id (m .0)) in (
+        record { id = call-id (m .0); values = map (fitting s) ps },
+        event-refusals P (call-id (m .0)) (length (map (fitting s) ps)) .is-none .1 (omega arith, (omega arith, right-count m (length (map (fitting s) ps)) i (c ∙ e))),
+        call-meets s (m .0) ps (omega arith),
+      )
   meeting s (return-shaped m p i) =
       let a : m .0 ≤ 65535 = law .numbers m i .0 in
-      let d : most-values (return-id (m .0)) ≡ 1 = ap (λ (z : Bool). cond z 5 1) (is-return-id (m .0)) in
-      (record { id = return-id (m .0); values = fitting s p ∷ [] }, record { known = omega arith; carries = omega arith }, return-meets s (m .0) p)
+      let d : most-values (return-id (m .0)) ≡ 1 = ap (λ (z : Bool). cond z 5 1) (is-return-id (m .0)) in (
+        record { id = return-id (m .0); values = fitting s p ∷ [] },
+        event-refusals P (return-id (m .0)) 1 .is-none .1 (omega arith, (omega arith, no-call (return-id (m .0)) 1 (is-return-id (m .0)))),
+        return-meets s (m .0) p,
+      )
 
   abbrev All-shaped : List Matcher → Type 0
   All-shaped ms = (m : Matcher) → m ∈ ms → Shaped P m
 
   -- so are some in turn
-  meet-all : (ms : List Matcher) (s : Registers) → All-shaped ms → (X : List Event) × All-lawful X × (s′ : Registers) × (fares ms s X ≡ passes s′)
+  meet-all : (ms : List Matcher) (s : Registers) → All-shaped ms → (X : List Event) × All-taken P X × (s′ : Registers) × (fares ms s X ≡ passes s′)
   meet-all [] s f = ([], (λ e m. absurd (List·Memᴰ·not-nil m)), s, refl)
   meet-all (m ∷ ms) s f =
       let x = meeting s (f m (List·Memᴰ·head refl)) in
       let y = meet-all ms (writes s (x .0) m) (λ n i. f n (List·Memᴰ·tail i)) in
-      (x .0 ∷ y .0, (λ e i. ⊎-elim (λ (q : e ≡ x .0). subst Lawful-event (sym q) (x .1)) (λ h. y .1 e h) (List·Memᴰ·cases-cons i)), y .2, rw (x .2) (y .3))
+      (x .0 ∷ y .0, (λ e i. ⊎-elim (λ (q : e ≡ x .0). subst (λ (z : Event). event-reason P z ≡ None) (sym q) (x .1)) (λ h. y .1 e h) (List·Memᴰ·cases-cons i)), y .2, rw (x .2) (y .3))
 
   -- what hangs may yet pass
-  may-pass : (ms : List Matcher) (s : Registers) (es : List Event) → All-shaped ms → fares ms s es ≡ hangs → (X : List Event) × All-lawful X × (s′ : Registers) × (fares ms s (es ++ X) ≡ passes s′)
+  may-pass : (ms : List Matcher) (s : Registers) (es : List Event) → All-shaped ms → fares ms s es ≡ hangs → (X : List Event) × All-taken P X × (s′ : Registers) × (fares ms s (es ++ X) ≡ passes s′)
   may-pass [] s es f h = absurd (passes≢hangs refl h)
   may-pass (m ∷ ms) s [] f h = meet-all (m ∷ ms) s f
   may-pass (m ∷ ms) s (a ∷ es) f h = go (meets s a m) (may-pass ms (writes s a m) es (λ n i. f n (List·Memᴰ·tail i))) h
     where
-      go : (b : Bool) → (fares ms (writes s a m) es ≡ hangs → (X : List Event) × All-lawful X × (s′ : Registers) × (fares ms (writes s a m) (es ++ X) ≡ passes s′)) → cond b (fares ms (writes s a m) es) fails ≡ hangs →
-          (X : List Event) × All-lawful X × (s′ : Registers) × (cond b (fares ms (writes s a m) (es ++ X)) fails ≡ passes s′)
+      go : (b : Bool) → (fares ms (writes s a m) es ≡ hangs → (X : List Event) × All-taken P X × (s′ : Registers) × (fares ms (writes s a m) (es ++ X) ≡ passes s′)) → cond b (fares ms (writes s a m) es) fails ≡ hangs →
+          (X : List Event) × All-taken P X × (s′ : Registers) × (cond b (fares ms (writes s a m) (es ++ X)) fails ≡ passes s′)
       go true below i = below i
       go false below i = absurd (fails≢hangs refl i)
 
@@ -133,7 +163,7 @@ module _ (P : Table) (law : Lawful P) where
 
   module _ (L : List Event) where
     -- a move that every longer list keeps is one of a settled run
-    settled-move : {p q n : ℕ} {c d : Configuration} → p ≤ length L → ((X : List Event) → All-lawful X → (y : ℕ × Configuration) × Move P (closing (L ++ X)) p c n (y .0) (y .1)) → Move P (closing L) p c n q d → Move P (so-far L) p c n q d
+    settled-move : {p q n : ℕ} {c d : Configuration} → p ≤ length L → ((X : List Event) → All-taken P X → (y : ℕ × Configuration) × Move P (closing (L ++ X)) p c n (y .0) (y .1)) → Move P (closing L) p c n q d → Move P (so-far L) p c n q d
     settled-move b A (pass t s l e) = pass t s l e
     settled-move {p} {c = c} b A (skip l f) = skip l (λ t v. still t v (outcome-of (so-far L) p c t) refl)
       where
@@ -145,7 +175,7 @@ module _ (P : Table) (law : Lawful P) where
             let k : outcome-of (closing (L ++ x .0)) p c t ≡ passes (x .2) = ap (fares (matchers (t .1)) (c .registers)) (drop-append-le p L (x .0) b) ∙ x .3 in
             absurd (skip-calm refl (A (x .0) (x .1) .1) t v (x .2) k)
 
-    settled-replay : (ns : List ℕ) (x : ℕ × Configuration) → x .0 ≤ length L → ((X : List Event) → All-lawful X → (y : ℕ × Configuration) × (replay P (closing (L ++ X)) ns x ≡ some y)) →
+    settled-replay : (ns : List ℕ) (x : ℕ × Configuration) → x .0 ≤ length L → ((X : List Event) → All-taken P X → (y : ℕ × Configuration) × (replay P (closing (L ++ X)) ns x ≡ some y)) →
         (y : ℕ × Configuration) × (replay P (so-far L) ns x ≡ some y)
     settled-replay [] x b A = (x, refl)
     settled-replay (n ∷ ns) x b A = go (settled-replay ns)
@@ -155,10 +185,10 @@ module _ (P : Table) (law : Lawful P) where
         split w none y i h = absurd (none≢some refl h)
         split w (some z) y i h = (z, i, h)
 
-        step : (X : List Event) → All-lawful X → (z : ℕ × Configuration) × (by-step P (closing (L ++ X)) n x ≡ some z) × ((y : ℕ × Configuration) × (replay P (closing (L ++ X)) ns z ≡ some y))
+        step : (X : List Event) → All-taken P X → (z : ℕ × Configuration) × (by-step P (closing (L ++ X)) n x ≡ some z) × ((y : ℕ × Configuration) × (replay P (closing (L ++ X)) ns z ≡ some y))
         step X a = let u = A X a in let v = split (closing (L ++ X)) (by-step P (closing (L ++ X)) n x) (u .0) refl (u .1) in (v .0, v .1, (u .0, v .2))
 
-        no-more : All-lawful []
+        no-more : All-taken P []
         no-more e m = absurd (List·Memᴰ·not-nil m)
 
         z : ℕ × Configuration
@@ -174,7 +204,7 @@ module _ (P : Table) (law : Lawful P) where
             step-complete P [] (closing (L ++ X)) (law .few-statements)
             (keeps-closing P (L ++ X) (x .0) (z .0) n (x .1) (z .1) (let q : length (L ++ X) ≡ length L + length X = length-append L X in omega arith) (keeps-longer P L X (x .0) (z .0) n (x .1) (z .1) b moved))
 
-        go : ((x : ℕ × Configuration) → x .0 ≤ length L → ((X : List Event) → All-lawful X → (y : ℕ × Configuration) × (replay P (closing (L ++ X)) ns x ≡ some y)) → (y : ℕ × Configuration) × (replay P (so-far L) ns x ≡ some y)) →
+        go : ((x : ℕ × Configuration) → x .0 ≤ length L → ((X : List Event) → All-taken P X → (y : ℕ × Configuration) × (replay P (closing (L ++ X)) ns x ≡ some y)) → (y : ℕ × Configuration) × (replay P (so-far L) ns x ≡ some y)) →
             (y : ℕ × Configuration) × (then (by-step P (so-far L) n x) (replay P (so-far L) ns) ≡ some y)
         go below =
             let r = below z (move-bounds b moved .1) (λ X a. let u = step X a in (u .2 .0, subst (λ (v : ℕ × Configuration). replay P (closing (L ++ X)) ns v ≡ some (u .2 .0)) (some-same (u .1) (same-step X)) (u .2 .1))) in
@@ -183,10 +213,10 @@ module _ (P : Table) (law : Lawful P) where
 pub settled-runs : Certain
 settled-runs P k L p path law = (there, back)
   where
-    there : Errs-by P k (so-far L) p path → (X : List Event) → All-lawful X → Errs-by P k (closing (L ++ X)) p path
+    there : Errs-by P k (so-far L) p path → (X : List Event) → All-taken P X → Errs-by P k (closing (L ++ X)) p path
     there x X a = (x .0, x .1, persists P k L X p (x .0) path (x .2) .2)
 
-    back : ((X : List Event) → All-lawful X → Errs-by P k (closing (L ++ X)) p path) → Errs-by P k (so-far L) p path
+    back : ((X : List Event) → All-taken P X → Errs-by P k (closing (L ++ X)) p path) → Errs-by P k (so-far L) p path
     back A =
         let x = A [] (λ e m. absurd (List·Memᴰ·not-nil m)) in
         let r = settled-replay P law L path (0, first-configuration k) (omega arith) (λ X a. let u = A X a in ((p, u .0), replays P k (closing (L ++ X)) p (u .0) path law .0 (u .2))) in

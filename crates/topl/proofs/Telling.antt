@@ -1,9 +1,10 @@
 -- What is true of a history.
-use Prim.Native.Nat.{ℕ, zero, suc, _<_}
+use Prim.Native.Nat.{ℕ}
 use native.Mathlib.Omega.{arith}
 use mathlib.Core.Path.{_≡_, refl, sym, ap, subst, _∙_}
-use mathlib.Core.Logic.{_⊎_, inl, inr, ⊎-elim}
-use mathlib.Core.List.{List, [], _∷_, _++_, List·Memᴰ, List·Memᴰ·head, List·Memᴰ·tail, List·Memᴰ·not-nil, List·Memᴰ·cases-cons}
+use mathlib.Core.Logic.{_⊎_, inl, inr}
+use mathlib.Core.Bool.{cond}
+use mathlib.Core.List.{List, [], _∷_, _++_, append-nil, append-assoc, List·Memᴰ·not-nil, List·Memᴰ·cases-cons}
 use lib.ListN.{length}
 use Rattle.std.specs.Finite.{nth}
 use Rattle.std.specs.declared.option.Option.{Option}
@@ -16,7 +17,8 @@ use Rattle.topl.specs.Lists.{_∈_}
 use Rattle.topl.specs.Table.{Event, at}
 use Rattle.topl.specs.Runs.{Mode, Reach, closed, closing, settled}
 use Rattle.topl.specs.Ledger.{Allowed, Answer, Ledger, Source, began, begin-reason, begun, on-page, opening-reason, path-on, phase-reason, registers-of, wrote}
-use Rattle.topl.specs.History.{Call, Does, History, Log, Means, Moment, One-run, Sound, Telling, Telling-on, Truth, ask-path, ask-verdict, draws-at, made, to-begin, to-close, to-draw, to-feed}
+use Rattle.topl.specs.History.{Call, Does, History, Judges-each-once, Log, Means, Moment, One-run, Sound, Telling, Telling-on, Truth, ask-path, ask-verdict, brought, draws-at, judged-over, judges, made, to-begin, to-close, to-draw, to-feed}
+use Rattle.topl.specs.Days.{board}
 use Rattle.topl.proofs.Persist.{persists}
 use Rattle.topl.proofs.Lasting.{lasting}
 use Rattle.topl.proofs.Language.{recognizes}
@@ -101,6 +103,16 @@ telling-on m n (t ∷ h) S (o, d, H) = (truth m n (t ∷ h) (m .ledger .phase) r
 
 pub telling : Telling
 telling board book W h n H = telling-on (made board book W) n h (lasting .fresh-sound board book) H
+
+judged-so : (m n : Moment) (h : Log) (H : History m h n) → Sound (m .ledger) → n .ledger .judged ≡ m .ledger .judged ++ judged-over m h n H
+judged-so m n [] H S = (λ j. H j .ledger .judged) ∙ sym (append-nil (m .ledger .judged))
+judged-so m n (t ∷ h) (o, d, H) S =
+    judged-so o n h H (sound m o (t .0) (t .1) S d)
+    ∙ ap (λ (z : List Event). z ++ judged-over o h n H) (turns m o (t .0) (t .1) S d .judged)
+    ∙ append-assoc (m .ledger .judged) (cond (judges (t .1)) (brought (m .sources) (t .0)) []) (judged-over o h n H)
+
+pub judges-each-once : Judges-each-once
+judges-each-once board book W h n H = judged-so (made board book W) n h H (lasting .fresh-sound board book)
 
 -- a path that is written is one of a broken watch
 wrote-broken : (l : Ledger) (page filled : List ℕ) (size : ℕ) (q : Phase) → wrote size filled ≡ on-page l page q → q ≡ Broken

@@ -1,16 +1,15 @@
 -- The translation of a table: a statement passes exactly if its labels fire.
-use Prim.Native.Nat.{ℕ, zero, suc, _+_, _≤_, _<_}
-use native.Mathlib.Omega.{arith}
+use Prim.Native.Nat.{ℕ, zero, suc, _+_}
 use native.Mathlib.Nat.{suc-add, zero-add}
-use mathlib.Core.Path.{_≡_, refl, sym, ap, subst, subst₂, _∙_}
-use mathlib.Core.Logic.{_⊎_, inl, inr, ⊎-elim, _↔_}
-use mathlib.Core.Bool.{Bool, true, false, cond, not, _&&_, true≢false, false≢true}
-use mathlib.Core.List.{List, [], _∷_, _++_, map, List·Memᴰ, List·Memᴰ·head, List·Memᴰ·tail, List·Memᴰ·not-nil, List·Memᴰ·cases-cons, Memᴰ·append-left, Memᴰ·append-right, cons≢nil, head-eq-of-cons-eq, tail-eq-of-cons-eq}
-use lib.ListN.{length, getD, set, take, drop, length-map, List·getD-map, List·getD-append}
+use mathlib.Core.Path.{_≡_, refl, sym, ap, subst, _∙_}
+use mathlib.Core.Logic.{_⊎_, inl, inr}
+use mathlib.Core.Bool.{Bool, true, false, cond, not, true≢false}
+use mathlib.Core.List.{List, [], _∷_, _++_, map, List·Memᴰ·head, List·Memᴰ·tail, List·Memᴰ·not-nil, List·Memᴰ·cases-cons, Memᴰ·append-left, Memᴰ·append-right, cons≢nil, head-eq-of-cons-eq, tail-eq-of-cons-eq}
+use lib.ListN.{length, getD, set, take, drop, length-map, List·getD-map}
 use lib.Seq.{getD-append-add}
 use lib.Dec.{eqb}
 use borrow.Author.Tests.{eqb-true, eq-eqb}
-use Rattle.std.proofs.shelf.Tests.{and-parts, and-from, cond-true, cond-false, cases-bool}
+use Rattle.std.proofs.shelf.Tests.{and-parts, and-from, cond-true}
 use Rattle.topl.specs.Lists.{Class, Distinct, _∈_, each, nothing, same-class}
 use Rattle.topl.specs.Automata.{Sat, Tuple, Value, _!_, act, given, ident}
 use Rattle.topl.specs.Table.{Any, Differs, Event, Matcher, Pattern, Same, Write, any-event, at, event-of, overwrites, patterns, places}
@@ -18,7 +17,7 @@ use Rattle.topl.specs.Translation.{action-of, actions-of, guard-of, guards-of,
 use Rattle.topl.specs.Runs.{Registers, fails, fares, fits, fits-all, meets, passes, writes, written, written-all}
 use Rattle.topl.proofs.Basics.{same-tests}
 use Rattle.topl.proofs.Persist.{passes≢fails, passes≢hangs}
-use Rattle.topl.proofs.Chain.{Fires}
+use Rattle.topl.proofs.Straight.{Fires}
 
 given-same : {u v : Class} {a : Value} → a ≡ given u → a ≡ given v → u ≡ v
 given-same p q = cc

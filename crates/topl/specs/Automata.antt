@@ -1,7 +1,6 @@
 -- TOPL automata and high-level TOPL automata, with their languages.
-use Prim.Native.Nat.{ℕ, zero, suc}
+use Prim.Native.Nat.{ℕ, suc}
 use mathlib.Core.Path.{_≡_}
-use mathlib.Core.Logic.{_⊎_}
 use mathlib.Core.List.{List, [], _∷_, _++_}
 use lib.ListN.{length, getD, set}
 use Rattle.topl.specs.Lists.{Class, nothing, _∈_}

@@ -1,25 +1,25 @@
 -- Worked days: what the definitions say of the calls of a few days, by computing.
-use Prim.Native.Nat.{ℕ, suc, _+_}
+use Prim.Native.Nat.{ℕ}
 use mathlib.Core.Path.{_≡_}
 use mathlib.Core.List.{List, [], _∷_, _++_, map}
 use lib.ListN.{length, take}
 use lib.Chars.{codes}
 use Rattle.std.specs.declared.option.Option.the-variants.{Some, None}
-use Rattle.kinds.specs.declared.phase.Phase.the-variants.{Blank, Running, Broken, Spilled, Full, Kept}
-use Rattle.kinds.specs.declared.refusal.Layer.the-variants.{Watch, Journal}
+use Rattle.kinds.specs.declared.phase.Phase.the-variants.{Running, Broken, Spilled, Full, Kept}
+use Rattle.kinds.specs.declared.refusal.Layer.the-variants.{Watch}
 use Rattle.kinds.specs.declared.refusal.Reason.{Reason}
-use Rattle.kinds.specs.declared.refusal.Reason.the-variants.{Cut, WildId, TooManyValues, Watch as of-watch}
+use Rattle.kinds.specs.declared.refusal.Reason.the-variants.{Watch as of-watch}
 use Rattle.kinds.specs.declared.watch_reason.WatchReason.{WatchReason}
-use Rattle.kinds.specs.declared.watch_reason.WatchReason.the-variants.{NotBegun, BegunAlready, BadCap, OtherConstants, SmallBoard, OtherArity, IsBroken, IsSpilled, IsFull, IsKept, NotBroken, SmallPage}
+use Rattle.kinds.specs.declared.watch_reason.WatchReason.the-variants.{IsSpilled, IsFull}
 use Rattle.kinds.specs.declared.refusal.Refusal.{Refusal}
 use Rattle.kinds.specs.Numbers.{number-class}
 use Rattle.kinds.specs.Labels.{label-of, label-class}
 use Rattle.topl.specs.declared.Told.{Told}
-use Rattle.topl.specs.Lists.{Class, nothing}
-use Rattle.topl.specs.Table.{Event, call-id, return-id, Any, Write, Same, Differs, call-label, return-label, whole-label, statement-of, Table, start, error}
-use Rattle.topl.specs.Runs.{so-far, closing, Error-at}
-use Rattle.topl.specs.Ledger.{Ledger, fresh, began, turned, broken-at, Answer, begun, no-event, no-source, says, verdict-is, wrote, unwritten, refused, Source, registers-of}
-use Rattle.topl.specs.History.{Call, to-begin, to-feed, to-draw, to-close, ask-verdict, ask-path, Moment, made, Log, calls-of, History, In-language}
+use Rattle.topl.specs.Lists.{Class}
+use Rattle.topl.specs.Table.{Event, call-id, return-id, Write, Same, call-label, whole-label, statement-of, Table, start, error, Lawful}
+use Rattle.topl.specs.Runs.{so-far, closing}
+use Rattle.topl.specs.Ledger.{Ledger, fresh, began, turned, broken-at, Answer, begun, says, verdict-is, wrote, refused}
+use Rattle.topl.specs.History.{to-begin, to-feed, to-close, ask-verdict, ask-path, Moment, made, Log, calls-of, History, In-language}
 
 -- This is a history of these calls, and there is no other: the answers, and what there is at the end.
 abbrev pub Only : Moment → Log → Moment → Type 0
@@ -30,15 +30,19 @@ Only m h n = History m h n × ((h′ : Log) (n′ : Moment) → calls-of h′ �
 abbrev pub number : ℕ → Class
 number n = number-class (Some n)
 
+-- a call of the method m with these classes
 abbrev pub call-of : ℕ → List Class → Event
 call-of m vs = record { id = call-id m; values = vs }
 
+-- a return of the method m with these
 abbrev pub return-of : ℕ → List Class → Event
 return-of m vs = record { id = return-id m; values = vs }
 
+-- the watch runs on
 abbrev pub still-running : Answer
 still-running = says Running None
 
+-- broken at p
 abbrev pub found-broken : ℕ → Answer
 found-broken p = says Broken (Some p)
 
@@ -46,6 +50,7 @@ found-broken p = says Broken (Some p)
 abbrev pub watch-refusal : Reason → ℕ → Refusal
 watch-refusal n place = record { layer = Watch; reason = n; place = place }
 
+-- the answer that it is
 abbrev pub refused-for : WatchReason → ℕ → Answer
 refused-for n place = refused (watch-refusal (of-watch n) place)
 
@@ -61,6 +66,7 @@ board = 2624
 abbrev pub begun-over : ℕ → Table → List Class → ℕ → Ledger
 begun-over book P ks cap = began (fresh board book) P ks cap
 
+-- a watch with this ledger, and no source
 abbrev pub alone : Ledger → Moment
 alone l = record { ledger = l; sources = [] }
 
@@ -83,9 +89,11 @@ stale = record {
 abbrev pub stale-day : Class → Class → Class → Class → List Event
 stale-day f s f′ s′ = call-of 3 (f ∷ []) ∷ return-of 3 (s ∷ []) ∷ call-of 5 [] ∷ call-of 4 (f′ ∷ s′ ∷ []) ∷ []
 
+-- fetch(12) returns 900, and these two are applied after midnight
 abbrev pub applied : List Event
 applied = stale-day (number 12) (number 900) (number 12) (number 900)
 
+-- fetch(12) returns 900, and 12 and 901 are applied
 abbrev pub applied-other : List Event
 applied-other = stale-day (number 12) (number 900) (number 12) (number 901)
 
@@ -100,9 +108,11 @@ wait = record {
       statement-of 2 error (call-label 3 []) [] ∷ [];
 }
 
+-- calls of g, p and r
 abbrev pub gpr : List Event
 gpr = call-of 1 [] ∷ call-of 2 [] ∷ call-of 3 [] ∷ []
 
+-- and of z
 abbrev pub gprz : List Event
 gprz = gpr ++ (call-of 4 [] ∷ [])
 
@@ -110,13 +120,15 @@ gprz = gpr ++ (call-of 4 [] ∷ [])
 abbrev pub label-spelt : List ℕ → Class
 label-spelt text = label-class (label-of text)
 
+-- HW-12 and day-1 are fetched, hw-12 and DAY-1 applied
 abbrev pub applied-labels : List Event
 applied-labels = stale-day (label-spelt (codes "HW-12")) (label-spelt (codes "day-1")) (label-spelt (codes "hw-12")) (label-spelt (codes "DAY-1"))
 
--- the run that the day of Stale shows, and the ledger at its end
+-- the run that the day of Stale shows
 abbrev pub first-path : List ℕ
 first-path = 1 ∷ 2 ∷ 3 ∷ []
 
+-- the ledger at the end of that day
 abbrev pub stale-end : Ledger
 stale-end = broken-at (begun-over 16384 stale [] 64) (so-far applied) 4 first-path
 
@@ -126,15 +138,21 @@ Tells-of t l = (t .phase ≡ l .phase) × (t .judged ≡ length (l .judged)) × 
 
 -- THE WORKED DAYS
 pub record Worked : Type 0 where
+  -- both properties are lawful
+  pub stale-lawful : Lawful stale
+  pub wait-lawful : Lawful wait
   -- the applied value is stale: broken at the fourth event
   pub stale-breaks : Day 16384 stale 64
       (all-fed (take 3 applied) still-running ++ ((to-feed (call-of 4 (number 12 ∷ number 900 ∷ [])), found-broken 4) ∷ (ask-verdict, verdict-is Broken 4 (Some 4)) ∷
       (ask-path (0 ∷ 0 ∷ 0 ∷ 9 ∷ []), wrote 3 (1 ∷ 2 ∷ 3 ∷ 9 ∷ [])) ∷ []))
       stale-end
+  -- and so is every longer list, by the language of the property's automaton
+  pub stale-in-language : (X : List Event) → In-language stale-end (applied ++ X)
   -- another value is applied: kept
   pub other-value-kept : Day 16384 stale 64
       (all-fed applied-other still-running ++ ((to-close, says Kept None) ∷ (ask-verdict, verdict-is Kept 4 None) ∷ []))
       (turned (begun-over 16384 stale [] 64) Kept (closing applied-other))
+  pub other-value-not-in-language : ¬ In-language stale-end applied-other
   -- a cap of 1: the second event spills, and is not judged; the watch stays spilled
   pub cap-of-one-spills : Day 16384 stale 1
       (all-fed (take 1 applied) still-running ++ ((to-feed (return-of 3 (number 900 ∷ [])), refused-for IsSpilled 1) ∷ (ask-verdict, verdict-is Spilled 1 None) ∷

@@ -1,21 +1,22 @@
--- Further worked histories, one for each clause of the rules that no worked day shows, and the readings that the rules exclude.
+-- Further worked histories, for clauses of the rules that no worked day shows, and the readings that the rules exclude.
 use Prim.Native.Nat.{ℕ}
 use mathlib.Core.Path.{_≡_}
-use mathlib.Core.List.{List, [], _∷_, _++_, map}
-use lib.ListN.{take, replicate}
-use Rattle.std.specs.declared.option.Option.the-variants.{Some, None}
-use Rattle.kinds.specs.declared.phase.Phase.the-variants.{Blank, Running, Broken, Spilled, Full, Kept}
-use Rattle.kinds.specs.declared.refusal.Layer.the-variants.{Watch, Journal}
+use mathlib.Core.List.{List, [], _∷_, _++_}
+use lib.ListN.{take, drop, replicate}
+use Rattle.std.specs.declared.option.Option.the-variants.{None}
+use Rattle.kinds.specs.declared.phase.Phase.the-variants.{Blank, Running, Spilled, Full, Kept}
+use Rattle.kinds.specs.declared.refusal.Layer.the-variants.{Journal}
 use Rattle.kinds.specs.declared.refusal.Reason.the-variants.{Cut, WildId, TooManyValues, Watch as of-watch}
 use Rattle.kinds.specs.declared.watch_reason.WatchReason.the-variants.{NotBegun, BegunAlready, BadCap, OtherConstants, SmallBoard, OtherArity, IsBroken, IsSpilled, IsFull, IsKept, NotBroken, SmallPage}
 use Rattle.kinds.specs.declared.refusal.Refusal.{Refusal}
 use Rattle.kinds.specs.declared.refusal.Ending.the-variants.{End, Refused}
-use Rattle.topl.specs.Lists.{Class, nothing}
-use Rattle.topl.specs.Table.{Event, Any, Write, Same, Differs, call-label, return-label, whole-label, any-label, statement-of, Table, empty-table, start, error}
+use mathlib.Core.Bool.{true}
+use Rattle.topl.specs.Lists.{nothing, every}
+use Rattle.topl.specs.Table.{Event, Any, Write, Same, Differs, call-label, return-label, statement-of, Table, empty-table, start, error, is-lawful}
 use Rattle.topl.specs.Runs.{so-far, closing, Error-at}
-use Rattle.topl.specs.Ledger.{Ledger, fresh, began, turned, broken-at, Answer, begun, no-event, no-source, says, verdict-is, wrote, unwritten, refused, Source, registers-of}
-use Rattle.topl.specs.History.{Call, to-begin, to-feed, to-draw, to-close, ask-verdict, ask-path, Moment, made, Log, History, In-language}
-use Rattle.topl.specs.Days.{Only, number, call-of, return-of, still-running, found-broken, watch-refusal, refused-for, all-fed, board, begun-over, alone, Day, stale, stale-day, applied, wait, gpr, gprz, first-path}
+use Rattle.topl.specs.Ledger.{Ledger, fresh, began, turned, broken-at, begun, no-event, no-source, says, verdict-is, wrote, unwritten, refused, Source, registers-of}
+use Rattle.topl.specs.History.{to-begin, to-feed, to-draw, to-close, ask-verdict, ask-path, Moment, made, In-language}
+use Rattle.topl.specs.Days.{Only, number, call-of, return-of, still-running, found-broken, watch-refusal, refused-for, all-fed, board, begun-over, alone, Day, stale, applied, wait, gpr, gprz, first-path, stale-end}
 
 -- PROPERTIES
 -- start -> error: call m(<Limit>), with m 1. The constant is register 0.
@@ -30,10 +31,11 @@ fifth = record {
   statements = statement-of start 2 (call-label 1 (Any ∷ Any ∷ Any ∷ Any ∷ Write 0 ∷ [])) [] ∷ statement-of 2 error (call-label 2 (Same 0 ∷ [])) [] ∷ [];
 }
 
--- start -> a: ret S := m; a -> error: call n(s), with m 1 and n 2; and the same with !s
+-- start -> a: ret S := m; a -> error: call n(s), with m 1 and n 2
 abbrev pub returned-same : Table
 returned-same = record { methods = (1, 0) ∷ (2, 1) ∷ []; constants = []; statements = statement-of start 2 (return-label (Write 0) 1) [] ∷ statement-of 2 error (call-label 2 (Same 0 ∷ [])) [] ∷ [] }
 
+-- start -> a: ret S := m; a -> error: call n(!s)
 abbrev pub returned-other : Table
 returned-other = record { methods = (1, 0) ∷ (2, 1) ∷ []; constants = []; statements = statement-of start 2 (return-label (Write 0) 1) [] ∷ statement-of 2 error (call-label 2 (Differs 0 ∷ [])) [] ∷ [] }
 
@@ -45,25 +47,43 @@ joined = record { methods = (1, 0) ∷ (2, 0) ∷ []; constants = []; statements
 abbrev pub rewritten : Table
 rewritten = record { methods = (1, 1) ∷ (2, 2) ∷ []; constants = []; statements = statement-of start 2 (call-label 1 (Write 0 ∷ [])) [] ∷ statement-of 2 error (call-label 2 (Write 0 ∷ Same 0 ∷ [])) [] ∷ [] }
 
+-- start -> error: call m(), with m 1
+abbrev pub at-once : Table
+at-once = record { methods = (1, 0) ∷ []; constants = []; statements = statement-of start error (call-label 1 []) [] ∷ [] }
+
+-- property Wait with one statement more, start -> b: call p()
+abbrev pub wait-more : Table
+wait-more = record { methods = wait .methods; constants = []; statements = wait .statements ++ (statement-of start 4 (call-label 2 []) [] ∷ []) }
+
 -- SOURCES
--- a fetch with no value, and then a midnight; and a source that ends in a refusal of a journal
+-- a call of midnight
 abbrev pub midnight : Event
 midnight = call-of 5 []
 
+-- a source with a fetch of no value, and then a midnight
 abbrev pub odd-source : Source
 odd-source = record { waiting = call-of 3 [] ∷ midnight ∷ []; ending = End }
 
+-- a refusal of a journal
 abbrev pub cut : Refusal
 cut = record { layer = Journal; reason = Cut; place = 7 }
 
+-- a source with a midnight, which ends in that refusal
 abbrev pub cut-source : Source
 cut-source = record { waiting = midnight ∷ []; ending = Refused cut }
 
+-- a source with the day that breaks Stale
+abbrev pub day-source : Source
+day-source = record { waiting = applied; ending = End }
+
+-- a watch with this ledger, and sources
 abbrev pub with-sources : Ledger → List Source → Moment
 with-sources l W = record { ledger = l; sources = W }
 
 -- THE EXAMPLES
 pub record Examples : Type 0 where
+  -- all these properties are lawful, and so is the table that no text has filled
+  pub all-lawful : every is-lawful (limited ∷ fifth ∷ returned-same ∷ returned-other ∷ joined ∷ rewritten ∷ at-once ∷ wait-more ∷ empty-table ∷ []) ≡ true
   -- a constant stands in its register from the start: another value does not break, the constant's does
   pub constant-is-set : Only (made board 16384 [])
       ((to-begin limited (number 7 ∷ []) 64, begun) ∷ (to-feed (call-of 1 (number 8 ∷ [])), still-running) ∷ (to-feed (call-of 1 (number 7 ∷ [])), found-broken 2) ∷ [])
@@ -87,6 +107,14 @@ pub record Examples : Type 0 where
   pub refused-draw-takes-one : Only (made board 16384 (odd-source ∷ []))
       ((to-begin stale [] 64, begun) ∷ (to-draw 0, refused-for OtherArity 0) ∷ [])
       (with-sources (begun-over 16384 stale [] 64) (record { waiting = midnight ∷ []; ending = End } ∷ []))
+  -- a day that is drawn: it breaks as one that is fed, and the other source is not touched
+  pub drawn-day-breaks : Only (made board 16384 (cut-source ∷ day-source ∷ []))
+      ((to-begin stale [] 64, begun) ∷ (to-draw 1, still-running) ∷ (to-draw 1, still-running) ∷ (to-draw 1, still-running) ∷ (to-draw 1, found-broken 4) ∷ [])
+      (with-sources stale-end (cut-source ∷ record { waiting = []; ending = End } ∷ []))
+  -- an event whose draw spills is gone, and not judged
+  pub spilled-draw-takes-one : Only (made board 16384 (day-source ∷ []))
+      ((to-begin stale [] 1, begun) ∷ (to-draw 0, still-running) ∷ (to-draw 0, refused-for IsSpilled 1) ∷ (to-draw 0, refused-for IsSpilled 1) ∷ [])
+      (with-sources (turned (begun-over 16384 stale [] 1) Spilled (so-far (take 1 applied))) (record { waiting = drop 2 applied; ending = End } ∷ []))
   -- a source's refusal is passed on, at each draw
   pub ending-is-passed-on : Only (made board 16384 (cut-source ∷ []))
       ((to-begin stale [] 64, begun) ∷ (to-draw 0, still-running) ∷ (to-draw 0, refused cut) ∷ (to-draw 0, refused cut) ∷ [])
@@ -124,24 +152,57 @@ pub record Examples : Type 0 where
       (to-feed (return-of 3 (replicate 2 nothing)), refused (watch-refusal TooManyValues 0)) ∷ (to-feed (call-of 3 (replicate 2 nothing)), refused-for OtherArity 0) ∷
       (to-feed (record { id = 131071; values = nothing ∷ [] }), still-running) ∷ (to-feed (call-of 9 (replicate 5 nothing)), still-running) ∷ [])
       (turned (begun-over 16384 stale [] 64) Running (so-far (record { id = 131071; values = nothing ∷ [] } ∷ call-of 9 (replicate 5 nothing) ∷ [])))
+  -- at one position `error` comes before the cap, and before the book
+  pub error-comes-first : Day 1 at-once 1
+      ((to-feed (call-of 1 []), found-broken 1) ∷ [])
+      (broken-at (begun-over 1 at-once [] 1) (so-far (call-of 1 [] ∷ [])) 1 (1 ∷ []))
+  -- the lowest position decides: at the close position 2 has three configurations, and position 3 reaches `error`
+  pub lowest-position-decides : Day 16384 wait-more 2
+      (all-fed gpr still-running ++ ((to-close, refused-for IsSpilled 3) ∷ []))
+      (turned (begun-over 16384 wait-more [] 2) Spilled (so-far gpr))
+  -- the need counts what was reached at later positions before: at the close it is 6 at position 2, before `error` is reached at position 3
+  pub need-counts-what-was : Day 5 wait 2
+      (all-fed gpr still-running ++ ((to-close, refused-for IsFull 3) ∷ []))
+      (turned (begun-over 5 wait [] 2) Full (so-far gpr))
+  pub book-of-six-waits : Day 6 wait 2
+      (all-fed gpr still-running ++ ((to-close, found-broken 3) ∷ []))
+      (broken-at (begun-over 6 wait [] 2) (closing gpr) 3 (1 ∷ 0 ∷ 3 ∷ []))
   -- the table that no text has filled keeps every list
   pub empty-table-keeps : Day 16384 empty-table 1
       ((to-feed midnight, still-running) ∷ (to-close, says Kept None) ∷ [])
       (turned (begun-over 16384 empty-table [] 1) Kept (closing (midnight ∷ [])))
 
 -- READINGS THAT ARE EXCLUDED
--- some run reaches `error`, of a list that has ended or of what has come so far
-abbrev pub Reaches-error : Table → List Event → Type 0
-Reaches-error P es = (p : ℕ) × Error-at P (registers-of (begun-over 16384 P [] 64)) (closing es) p
+-- the list is in the language of the property's automaton
+abbrev pub Accepted : Table → List Event → Type 0
+Accepted P es = In-language (begun-over 16384 P [] 64) es
 
+-- some settled run of what has come so far reaches `error`
 abbrev pub Settled-error : Table → List Event → Type 0
 Settled-error P es = (p : ℕ) × Error-at P (registers-of (begun-over 16384 P [] 64)) (so-far es) p
 
+-- m(1), and then n(2, 1), whose second value is what m wrote
+abbrev pub reads-earlier : List Event
+reads-earlier = call-of 1 (number 1 ∷ []) ∷ call-of 2 (number 2 ∷ number 1 ∷ []) ∷ []
+
+-- m(1), and then n(2, 2), whose second value is what n writes itself
+abbrev pub reads-itself : List Event
+reads-itself = call-of 1 (number 1 ∷ []) ∷ call-of 2 (number 2 ∷ number 2 ∷ []) ∷ []
+
+-- m and n
+abbrev pub consecutive : List Event
+consecutive = call-of 1 [] ∷ call-of 2 [] ∷ []
+
+-- m and n, with a call of an undeclared method between them
+abbrev pub interrupted : List Event
+interrupted = call-of 1 [] ∷ call-of 9 [] ∷ call-of 2 [] ∷ []
+
+-- What each of three other readings would get wrong.
 pub record Excluded : Type 0 where
   -- Skipping as soon as nothing passes, while more may come: after g, p, r such a run would reach `error`, as it does once the list has ended; but z may
   -- still come, and then no run does.
-  pub no-hasty-skip : Reaches-error wait gpr × (¬ Settled-error wait gpr) × (¬ Reaches-error wait gprz)
+  pub no-hasty-skip : Accepted wait gpr × (¬ Settled-error wait gpr) × (¬ Accepted wait gprz)
   -- Reads that see their own event's writes: call n(X, x) reads the x that was written before.
-  pub reads-come-first : Reaches-error rewritten (call-of 1 (number 1 ∷ []) ∷ call-of 2 (number 2 ∷ number 1 ∷ []) ∷ []) × (¬ Reaches-error rewritten (call-of 1 (number 1 ∷ []) ∷ call-of 2 (number 2 ∷ number 2 ∷ []) ∷ []))
+  pub reads-come-first : Accepted rewritten reads-earlier × (¬ Accepted rewritten reads-itself)
   -- Passing over calls of methods that the property does not declare: joined labels match consecutive events.
-  pub undeclared-calls-count : Reaches-error joined (call-of 1 [] ∷ call-of 2 [] ∷ []) × (¬ Reaches-error joined (call-of 1 [] ∷ call-of 9 [] ∷ call-of 2 [] ∷ []))
+  pub undeclared-calls-count : Accepted joined consecutive × (¬ Accepted joined interrupted)

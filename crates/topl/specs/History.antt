@@ -4,21 +4,21 @@ use mathlib.Core.Path.{_≡_}
 use mathlib.Core.Logic.{_⊎_, _↔_}
 use mathlib.Core.Bool.{Bool, true, false, cond}
 use mathlib.Core.List.{List, [], _∷_, _++_, map}
-use lib.ListN.{length, set, take, drop}
+use lib.ListN.{set, take, drop}
 use Rattle.std.specs.Finite.{nth}
 use Rattle.std.specs.declared.option.Option.{Option}
 use Rattle.std.specs.declared.option.Option.the-variants.{Some, None}
 use Rattle.kinds.specs.declared.phase.Phase.{Phase}
 use Rattle.kinds.specs.declared.phase.Phase.the-variants.{Blank, Running, Broken, Spilled, Full, Kept}
-use Rattle.kinds.specs.declared.refusal.Reason.{Reason}
 use Rattle.kinds.specs.declared.refusal.Reason.the-variants.{WildId, TooManyValues, Watch as of-watch}
 use Rattle.kinds.specs.declared.watch_reason.WatchReason.the-variants.{BegunAlready, BadCap, OtherConstants, SmallBoard, OtherArity}
 use Rattle.topl.specs.Lists.{Class, _∈_}
 use Rattle.topl.specs.Automata.{High-language}
-use Rattle.topl.specs.Table.{Event, calls, most-values, Statement, Table, numbered, error, Lawful}
+use Rattle.topl.specs.Table.{Event, Lawful-event, calls, most-values, Table, Lawful}
 use Rattle.topl.specs.Translation.{letter, automaton-of}
-use Rattle.topl.specs.Runs.{Configuration, Mode, settled, closed, so-far, closing, Error-at}
-use Rattle.topl.specs.Ledger.{Ledger, fresh, registers-of, world-of, broken-at, Answer, begun, no-event, no-source, says, verdict-is, wrote, unwritten, refused, opening-reason, count-reason, Begins, Feeds, Closes, Source, Draws, Allowed, path-on, verdict}
+use Rattle.topl.specs.Runs.{World, Mode, settled, closed, so-far, closing, Error-at}
+use Rattle.topl.specs.Ledger.{Ledger, fresh, registers-of, world-of, Answer, begun, no-event, no-source, says, verdict-is, wrote, unwritten, refused, opening-reason, count-reason, phase-reason, event-reason, feed-reason, rule, with-event, Begins, Feeds, Closes, Source, Draws, Allowed, path-on, verdict}
+use Rattle.topl.specs.Deciding.{breaks, spills, overfills, goes-on, decides}
 use Rattle.topl.specs.Theorems.{Steady}
 
 -- CALLS
@@ -57,6 +57,7 @@ Does m (ask-path page) a o = (o ≡ m) × (a ≡ path-on (m .ledger) page)
 abbrev pub Log : Type 0
 Log = List (Call × Answer)
 
+-- the calls alone
 abbrev pub calls-of : Log → List Call
 calls-of h = map (λ t. t .0) h
 
@@ -66,11 +67,12 @@ History m [] n = n ≡ m
 History m (t ∷ h) n = (o : Moment) × Does m (t .0) (t .1) o × History o h n
 
 -- WHAT ONE CALL CHANGES
--- the event that a call brings: a feed its own, a draw the first that waits at its source
+-- the first event that waits at a source
 abbrev pub first-of : Option Source → List Event
 first-of None = []
 first-of (Some s) = take 1 (s .waiting)
 
+-- the event that a call brings: a feed its own, a draw the first that waits at its source
 abbrev pub brought : List Source → Call → List Event
 brought W (to-begin P ks cap) = []
 brought W (to-feed e) = e ∷ []
@@ -104,6 +106,7 @@ abbrev pub drawn-from : List Source → ℕ → Option Source → List Source
 drawn-from W k None = W
 drawn-from W k (Some s) = set W k (record { waiting = drop 1 (s .waiting); ending = s .ending })
 
+-- is the watch running
 abbrev pub is-running : Phase → Bool
 is-running Blank = false
 is-running Running = true
@@ -145,6 +148,7 @@ mode-after w (ask-path page) a = w
 abbrev pub Arguments : Type 0
 Arguments = Table × List Class × ℕ
 
+-- what the ledger says of it
 abbrev pub begun-with : Ledger → Arguments
 begun-with l = (l .table, l .constants, l .cap)
 
@@ -159,6 +163,7 @@ begun-as was P ks cap (wrote n page) = was
 begun-as was P ks cap (unwritten f page) = was
 begun-as was P ks cap (refused f) = was
 
+-- and after any call
 abbrev pub begun-by : Arguments → Call → Answer → Arguments
 begun-by was (to-begin P ks cap) a = begun-as was P ks cap a
 begun-by was (to-feed e) a = was
@@ -188,6 +193,7 @@ Means l Spilled = l .position ≡ None
 Means l Full = l .position ≡ None
 Means l Kept = (l .position ≡ None) × ((p : ℕ) → ¬ Error-at (l .table) (registers-of l) (closing (l .judged)) p)
 
+-- the ledger keeps true what its phase says
 abbrev pub Sound : Ledger → Type 0
 Sound l = Means l (l .phase)
 
@@ -241,6 +247,41 @@ Telling = (board book : ℕ) (W : List Source) (h : Log) (n : Moment) → Histor
 -- So is one from any moment with a sound ledger.
 abbrev pub Telling-on : Type 0
 Telling-on = (m n : Moment) (h : Log) → Sound (m .ledger) → History m h n → Whole m h n
+
+-- the events that a history judges: of each feed and draw that is answered running or broken its own, in call order
+abbrev pub judged-over : (m : Moment) (h : Log) (n : Moment) → History m h n → List Event
+judged-over m [] n H = []
+judged-over m (t ∷ h) n (o, d, H) = cond (judges (t .1)) (brought (m .sources) (t .0)) [] ++ judged-over o h n H
+
+-- The judged list of a watch is exactly these.
+abbrev pub Judges-each-once : Type 0
+Judges-each-once = (board book : ℕ) (W : List Source) (h : Log) (n : Moment) (H : History (made board book W) h n) → n .ledger .judged ≡ judged-over (made board book W) h n H
+
+-- A draw that the phase allows takes the first waiting event, and leaves the rest and the ending; one that it refuses leaves the source and the ledger.
+abbrev pub Draws-take-one : Type 0
+Draws-take-one =
+    (l : Ledger) (s s′ : Source) (r : Ledger × Answer) → Draws l s r s′ →
+    (l .phase ≡ Running → s′ ≡ record { waiting = drop 1 (s .waiting); ending = s .ending }) × (¬ (l .phase ≡ Running) → (s′ ≡ s) × (r .0 ≡ l))
+
+-- Where no refusal comes first, the phase after a feed or a close is what the deciding rule says of the list w, and idle if it decides nothing.
+pub record Phase-by-rule (l : Ledger) (w : World) (idle : Phase) (r : Ledger × Answer) : Type 0 where
+  pub is-broken : (p : ℕ) → ((r .0 .phase ≡ Broken) × (r .0 .position ≡ Some p)) ↔ (rule l w ≡ breaks p)
+  pub is-spilled : (r .0 .phase ≡ Spilled) ↔ (rule l w ≡ spills)
+  pub is-full : (r .0 .phase ≡ Full) ↔ (rule l w ≡ overfills)
+  pub is-idle : (r .0 .phase ≡ idle) ↔ (rule l w ≡ goes-on)
+
+-- It holds for a feed and for a close.
+abbrev pub Ruled : Type 0
+Ruled =
+    ((l : Ledger) (e : Event) (r : Ledger × Answer) → feed-reason l e ≡ None → Feeds l e r → Phase-by-rule l (with-event l e) Running r) ×
+    ((l : Ledger) (r : Ledger × Answer) → phase-reason (l .phase) ≡ None → Closes l r → Phase-by-rule l (closing (l .judged)) Kept r)
+
+-- The rule counts the entries of the book, and 16,384 where it has more.
+abbrev pub Books-count : Type 0
+Books-count =
+    (l : Ledger) (w : World) →
+    (l .book ≤ 16384 → rule l w ≡ decides (l .table) (registers-of l) (l .cap) (l .book) (so-far (l .judged)) w) ×
+    (16384 ≤ l .book → rule l w ≡ decides (l .table) (registers-of l) (l .cap) 16384 (so-far (l .judged)) w)
 
 -- All paths that a history writes are those of one run, the one that the ledger keeps at its end.
 abbrev pub One-run : Type 0
@@ -309,7 +350,8 @@ module _ (P : Table) (id n : ℕ) where
     pub is-30 : (count-reason P id n ≡ Some (of-watch OtherArity)) ↔ ((id ≤ 131071) × ((n ≤ most-values id) × Wrong-count))
     pub is-none : (count-reason P id n ≡ None) ↔ ((id ≤ 131071) × ((n ≤ most-values id) × (¬ Wrong-count)))
 
--- Both hold for all numbers.
+-- Both hold for all numbers; and of a lawful event, as every source hands over, only the arity can be refused.
 abbrev pub Refusing : Type 0
 Refusing =
-    ((phase : Phase) (board book given wanted cap : ℕ) → Begin-refusals phase board book given wanted cap) × ((P : Table) (id n : ℕ) → Event-refusals P id n)
+    ((phase : Phase) (board book given wanted cap : ℕ) → Begin-refusals phase board book given wanted cap) × ((P : Table) (id n : ℕ) → Event-refusals P id n) ×
+    ((P : Table) (e : Event) → Lawful-event e → (event-reason P e ≡ None) ⊎ (event-reason P e ≡ Some (of-watch OtherArity)))

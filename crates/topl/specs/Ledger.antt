@@ -1,5 +1,5 @@
 -- The ledger with which a watch is compared: what it keeps, what each call answers and what it leaves.
-use Prim.Native.Nat.{ℕ, zero, suc, _+_, _*_, _/_, min}
+use Prim.Native.Nat.{ℕ, _+_, _*_, _/_, min}
 use mathlib.Core.Path.{_≡_}
 use mathlib.Core.Bool.{Bool, true, false, cond, not, _&&_, _||_}
 use Rattle.std.specs.declared.option.Option.{Option}
@@ -12,14 +12,13 @@ use Rattle.kinds.specs.declared.phase.Phase.the-variants.{Blank, Running, Broke
 use Rattle.kinds.specs.declared.refusal.Layer.the-variants.{Watch}
 use Rattle.kinds.specs.declared.refusal.Reason.{Reason}
 use Rattle.kinds.specs.declared.refusal.Reason.the-variants.{WildId, TooManyValues, Watch as of-watch}
-use Rattle.kinds.specs.declared.watch_reason.WatchReason.{WatchReason}
 use Rattle.kinds.specs.declared.watch_reason.WatchReason.the-variants.{NotBegun, BegunAlready, BadCap, OtherConstants, SmallBoard, OtherArity, IsBroken, IsSpilled, IsFull, IsKept, NotBroken, SmallPage}
 use Rattle.kinds.specs.declared.refusal.Refusal.{Refusal}
 use Rattle.kinds.specs.declared.refusal.Ending.{Ending}
 use Rattle.kinds.specs.declared.refusal.Ending.the-variants.{End, Refused}
 use Rattle.topl.specs.Lists.{Class, nothing}
 use Rattle.topl.specs.Table.{Event, calls, most-values, Table, empty-table, register-count, error}
-use Rattle.topl.specs.Runs.{Registers, Configuration, Mode, settled, closed, World, so-far, closing, Reach}
+use Rattle.topl.specs.Runs.{Registers, Configuration, Mode, settled, World, so-far, closing, Reach}
 use Rattle.topl.specs.Deciding.{Ruling, breaks, spills, overfills, goes-on, decides}
 
 -- values put into registers, one after the other
@@ -56,6 +55,7 @@ fresh board book =
 abbrev pub world-of : Ledger → World
 world-of l = record { mode = l .mode; events = l .judged }
 
+-- the registers with which its runs begin
 abbrev pub registers-of : Ledger → Registers
 registers-of l = initial (l .table) (l .constants)
 
@@ -85,6 +85,7 @@ pub data Answer : Type 0 where
 abbrev pub refusal : Ledger → Reason → Refusal
 refusal l n = record { layer = Watch; reason = n; place = length (l .judged) }
 
+-- the answer that refuses so
 abbrev pub refuse : Ledger → Reason → Answer
 refuse l n = refused (refusal l n)
 
@@ -92,6 +93,7 @@ refuse l n = refused (refusal l n)
 abbrev pub reason-if : Bool → Reason → Option Reason → Option Reason
 reason-if b n later = cond b (Some n) later
 
+-- is the watch blank
 abbrev pub is-blank : Phase → Bool
 is-blank Blank = true
 is-blank Running = false
@@ -108,6 +110,7 @@ opening-reason phase board book given wanted cap =
     (reason-if (not (eqb given wanted)) (of-watch OtherConstants)
     (reason-if (ltb board (40 * cap + 64) || eqb book 0) (of-watch SmallBoard) None)))
 
+-- the same at a ledger
 abbrev pub begin-reason : Ledger → Table → List Class → ℕ → Option Reason
 begin-reason l P ks cap = opening-reason (l .phase) (l .board) (l .book) (length ks) (length (P .constants)) cap
 
@@ -132,6 +135,7 @@ count-reason P id n =
     (reason-if (ltb (most-values id) n) TooManyValues
     (reason-if (calls id && other-arity (P .methods) id n) (of-watch OtherArity) None))
 
+-- the same of an event
 abbrev pub event-reason : Table → Event → Option Reason
 event-reason P e = count-reason P (e .id) (length (e .values))
 
@@ -155,6 +159,7 @@ abbrev pub began : Ledger → Table → List Class → ℕ → Ledger
 began l P ks cap =
     record { board = l .board; book = l .book; phase = Running; table = P; constants = ks; cap = cap; judged = []; mode = settled; position = None; shown = [] }
 
+-- what a begin does
 abbrev pub Begins : Ledger → Table → List Class → ℕ → Ledger × Answer → Type 0
 Begins l P ks cap r = unless l (begin-reason l P ks cap) (λ r. r ≡ (began l P ks cap, begun)) r
 
@@ -225,5 +230,6 @@ on-page l page Kept = unwritten (refusal l (of-watch NotBroken)) page
 on-page l page Broken =
     cond (ltb (length page) (length (l .shown))) (unwritten (refusal l (of-watch SmallPage)) page) (wrote (length (l .shown)) (l .shown ++ drop (length (l .shown)) page))
 
+-- the same at the phase of the ledger
 abbrev pub path-on : Ledger → List ℕ → Answer
 path-on l page = on-page l page (l .phase)

@@ -1,12 +1,11 @@
 -- Runs of a property over a list of events.
 use Prim.Native.Nat.{ℕ, zero, suc, _+_, _<_}
 use mathlib.Core.Path.{_≡_}
-use mathlib.Core.Logic.{_⊎_}
 use mathlib.Core.Bool.{Bool, true, false, cond, not, _&&_}
 use mathlib.Core.List.{List, [], _∷_, _++_, map}
-use lib.ListN.{length, getD, set, drop}
-use lib.Dec.{eqb, T}
-use Rattle.topl.specs.Lists.{Class, nothing, alike, same-class, _∈_, each, holds, once}
+use lib.ListN.{length, set, drop}
+use lib.Dec.{eqb}
+use Rattle.topl.specs.Lists.{Class, alike, same-class, _∈_, each, once}
 use Rattle.topl.specs.Table.{Event, at, places, Pattern, Any, Write, Same, Differs, Matcher, any-event, event-of, Statement, Table, numbered, matchers, span, start, error}
 
 -- the classes that the registers hold
@@ -74,10 +73,11 @@ pub record World : Type 0 where
   pub mode : Mode
   pub events : List Event
 
--- the judged events while more may come, and once the list has ended
+-- the judged events while more may come
 abbrev pub so-far : List Event → World
 so-far es = record { mode = settled; events = es }
 
+-- the judged events once the list has ended
 abbrev pub closing : List Event → World
 closing es = record { mode = closed; events = es }
 
@@ -102,7 +102,7 @@ pub data Move (P : Table) (w : World) (p : ℕ) (c : Configuration) : ℕ → �
   skip : p < length (w .events) → ((t : ℕ × Statement) → Leaves P c t → Lets-skip (w .mode) (outcome-of w p c t)) →
       Move P w p c 0 (suc p) c
 
--- where every run first-configuration
+-- where every run begins
 abbrev pub first-configuration : Registers → Configuration
 first-configuration k = record { state = start; registers = k }
 
@@ -147,18 +147,20 @@ calm closed (passes s) = false
 calm closed fails = true
 calm closed hangs = true
 
--- where one statement leads from c at p, if it leaves the state and passes; whether it lets a skip go on
+-- where one statement leads from c at p, if it leaves the state and passes
 abbrev pub lands : World → ℕ → Configuration → ℕ × Statement → List Landing
 lands w p c t = cond (eqb (t .1 .source) (c .state)) (landing-of p t (outcome-of w p c t)) []
 
+-- whether it lets a skip go on
 abbrev pub calms : World → ℕ → Configuration → ℕ × Statement → Bool
 calms w p c t = cond (eqb (t .1 .source) (c .state)) (calm (w .mode) (outcome-of w p c t)) true
 
--- where some statements lead; whether all of them let a skip go on
+-- where some statements lead
 abbrev pub passing : World → ℕ → Configuration → List (ℕ × Statement) → List Landing
 passing w p c [] = []
 passing w p c (t ∷ ts) = lands w p c t ++ passing w p c ts
 
+-- whether all of them let a skip go on
 abbrev pub quiet : World → ℕ → Configuration → List (ℕ × Statement) → Bool
 quiet w p c [] = true
 quiet w p c (t ∷ ts) = calms w p c t && quiet w p c ts

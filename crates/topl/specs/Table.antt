@@ -1,5 +1,5 @@
 -- A property as a table: the methods that it declares, its constants and its statements.
-use Prim.Native.Nat.{ℕ, zero, suc, _+_, _*_, _/_, _%_, _≤_, _<_}
+use Prim.Native.Nat.{ℕ, suc, _+_, _*_, _/_, _%_, _≤_, _<_}
 use mathlib.Core.Path.{_≡_}
 use mathlib.Core.Bool.{Bool, true, false, cond, not, _&&_}
 use mathlib.Core.List.{List, [], _∷_, _++_, map}
@@ -25,6 +25,7 @@ return-id m = 2 * m + 1
 abbrev pub calls : ℕ → Bool
 calls id = eqb (id % 2) 0
 
+-- is the event a call
 abbrev pub is-call : Event → Bool
 is-call e = calls (e .id)
 
@@ -63,6 +64,7 @@ pub record Statement : Type 0 where
   pub head : Matcher
   pub rest : List Matcher
 
+-- all its matchers
 abbrev pub matchers : Statement → List Matcher
 matchers t = t .head ∷ t .rest
 
@@ -159,6 +161,7 @@ overwrites (Write r) = r ∷ []
 overwrites (Same r) = []
 overwrites (Differs r) = []
 
+-- the patterns of a matcher
 abbrev pub patterns : Matcher → List Pattern
 patterns any-event = []
 patterns (event-of i ps) = ps
@@ -197,10 +200,11 @@ pub record Lawful (P : Table) : Type 0 where
   pub statements-lawful : (t : Statement) → t ∈ P .statements → Lawful-statement P t
 
 -- THE TEST of a lawful table, as code can run it or keep it.
+-- are number and arity the same
 abbrev pub same-method : ℕ × ℕ → ℕ × ℕ → Bool
 same-method a b = eqb (a .0) (b .0) && eqb (a .1) (b .1)
 
--- do the patterns fit a call of the method m, or a return of it
+-- do the patterns fit a call of the method m
 abbrev pub fits-call : Table → ℕ → List Pattern → Bool
 fits-call P m [] = false
 fits-call P m (Any ∷ ps) = holds same-method (P .methods) (m, length ps)
@@ -208,26 +212,32 @@ fits-call P m (Write r ∷ ps) = false
 fits-call P m (Same r ∷ ps) = false
 fits-call P m (Differs r ∷ ps) = false
 
+-- do the patterns fit a return of the method m
 abbrev pub fits-return : Table → ℕ → List Pattern → Bool
 fits-return P m [] = false
 fits-return P m (p ∷ []) = holds eqb (map (λ d. d .0) (P .methods)) m
 fits-return P m (p ∷ q ∷ ps) = false
 
+-- is it a matcher of the property
 abbrev pub is-shaped : Table → Matcher → Bool
 is-shaped P any-event = true
 is-shaped P (event-of i ps) = cond (calls i) (fits-call P (i / 2) ps) (fits-return P (i / 2) ps)
 
+-- is it a lawful matcher
 abbrev pub is-lawful-matcher : Table → Matcher → Bool
 is-lawful-matcher P m =
     is-shaped P m && (every (λ r. ltb r register-count) (each names (patterns m)) &&
     (apart eqb (each overwrites (patterns m)) && every (λ r. not (holds eqb (P .constants) r)) (each overwrites (patterns m))))
 
+-- is it a lawful statement
 abbrev pub is-lawful-statement : Table → Statement → Bool
 is-lawful-statement P t = leb (span t) 4 && (ltb (t .source) 16 && (ltb (t .target) 16 && (not (eqb (t .source) error) && every (is-lawful-matcher P) (matchers t))))
 
+-- are number and arity in their ranges
 abbrev pub is-lawful-method : ℕ × ℕ → Bool
 is-lawful-method m = leb (m .0) 65535 && leb (m .1) 5
 
+-- is it a lawful table
 abbrev pub is-lawful : Table → Bool
 is-lawful P =
     leb (length (P .methods)) 32 && (every is-lawful-method (P .methods) && (apart eqb (map (λ m. m .0) (P .methods)) &&

@@ -1,17 +1,19 @@
 -- The theorems on runs, the language and the deciding rule.
 use Prim.Native.Nat.{ℕ, suc, _+_, _-_, _≤_, _<_}
 use mathlib.Core.Path.{_≡_}
-use mathlib.Core.Bool.{Bool, true, cond, _||_}
+use mathlib.Core.Bool.{true, cond, _||_}
 use mathlib.Core.Option.{some}
 use mathlib.Core.Logic.{_⊎_, _↔_}
 use mathlib.Core.List.{List, [], _∷_, _++_, map}
 use lib.ListN.{length, getD}
 use Rattle.topl.specs.Lists.{Class, nothing, _∈_, each, Distinct, holds, apart}
 use Rattle.topl.specs.Automata.{High-language}
-use Rattle.topl.specs.Table.{Event, at, calls, places, Lawful-event, Label, label-matchers, statement-of, matchers, Statement, Table, numbered, span, error, Lawful, is-lawful}
+use Rattle.topl.specs.Table.{Event, at, calls, places, Label, label-matchers, statement-of, matchers, Table, error, Lawful, is-lawful}
 use Rattle.topl.specs.Translation.{letter, automaton-of}
 use Rattle.topl.specs.Runs.{Registers, Configuration, World, so-far, closing, Move, first-configuration, Reach, Reaches, Error-at, alikeᶜ, runs, reached}
 use Rattle.topl.specs.Rows.{Stands, incoming, replay}
+use Rattle.topl.specs.Ledger.{event-reason}
+use Rattle.std.specs.declared.option.Option.the-variants.{None}
 use Rattle.topl.specs.Deciding.{Ruling, breaks, spills, overfills, goes-on, sum, count, need, ruling-at, decides}
 
 -- TABLES
@@ -66,20 +68,20 @@ Replays =
 abbrev pub Few-steps : Type 0
 Few-steps = (P : Table) (k : Registers) (w : World) (p n : ℕ) (c : Configuration) (path : List ℕ) → Lawful P → Reach P k w p c path → n ∈ path → n ≤ 65
 
--- every event of a list is lawful
-abbrev pub All-lawful : List Event → Type 0
-All-lawful X = (e : Event) → e ∈ X → Lawful-event e
+-- a watch over the property refuses none of these events: ids and counts of values are lawful, and calls of declared methods have their arity
+abbrev pub All-taken : Table → List Event → Type 0
+All-taken P X = (e : Event) → e ∈ X → event-reason P e ≡ None
 
 -- the steps lead to `error` at p, in a run of this world
 abbrev pub Errs-by : Table → Registers → World → ℕ → List ℕ → Type 0
 Errs-by P k w p path = (c : Configuration) × (c .state ≡ error) × Reach P k w p c path
 
--- The settled runs of a list are exactly the runs of it that are runs of every list of lawful events that begins with it: nothing else can be relied on
--- while more may come.
+-- The settled runs of a list are exactly the runs that every list which begins with it has, whatever events come that a watch takes: nothing else can be
+-- relied on while more may come.
 abbrev pub Certain : Type 0
 Certain =
     (P : Table) (k : Registers) (L : List Event) (p : ℕ) (path : List ℕ) → Lawful P →
-    Errs-by P k (so-far L) p path ↔ ((X : List Event) → All-lawful X → Errs-by P k (closing (L ++ X)) p path)
+    Errs-by P k (so-far L) p path ↔ ((X : List Event) → All-taken P X → Errs-by P k (closing (L ++ X)) p path)
 
 -- WHAT ONE MORE EVENT, OR THE END, ADDS
 -- a move leads here from one of the last four of n events, or from their end
@@ -148,6 +150,12 @@ Rule-in-words = (P : Table) (k : Registers) (cap book : ℕ) (before now : World
 abbrev pub Finding : Type 0
 Finding = (P : Table) (k : Registers) (cap book : ℕ) (before now : World) → Finds P k cap book before now
 
+-- A larger cap and a larger book change no ruling but spilled and full.
+abbrev pub Larger-rules-alike : Type 0
+Larger-rules-alike =
+    (P : Table) (k : Registers) (cap cap′ book book′ : ℕ) (before now : World) → cap ≤ cap′ → book ≤ book′ → ¬ (decides P k cap book before now ≡ spills) → ¬ (decides P k cap book before now ≡ overfills) →
+    decides P k cap′ book′ before now ≡ decides P k cap book before now
+
 -- A steady list, while the watch runs: no settled run reaches `error`, no position has more than cap configurations, and the book holds them all.
 abbrev pub Steady : Table → Registers → ℕ → ℕ → List Event → Type 0
 Steady P k cap book L =
@@ -155,6 +163,7 @@ Steady P k cap book L =
 
 -- From there a feed or a close has to look only at the positions from judged - 2 on. The need there follows from what each position gains.
 module _ (P : Table) (k : Registers) (cap book : ℕ) (L : List Event) (now : World) where
+  -- what a feed or a close finds, position by position
   pub record Resumes : Type 0 where
     pub kept : (p : ℕ) → p + 3 ≤ length L → count P k now p ≡ count P k (so-far L) p
     pub passed : (p : ℕ) → p + 3 ≤ length L → Undecided P k cap book (so-far L) now p

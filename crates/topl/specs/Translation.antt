@@ -1,5 +1,5 @@
 -- The high-level automaton that a property stands for.
-use Prim.Native.Nat.{ℕ, zero, suc, _+_}
+use Prim.Native.Nat.{ℕ, suc, _+_}
 use mathlib.Core.Bool.{cond}
 use mathlib.Core.List.{List, [], _∷_, _++_, map}
 use lib.ListN.{length}
@@ -30,13 +30,14 @@ abbrev pub index : ℕ → List ℕ → ℕ
 index x [] = 0
 index x (y ∷ ys) = cond (eqb x y) 0 (suc (index x ys))
 
--- the guard and the action of a pattern at component j, with m registers before the property's own
+-- the guard of a pattern at component j, with m registers before the property's own
 abbrev pub guard-of : ℕ → ℕ → Pattern → Guard
 guard-of m j Any = always
 guard-of m j (Write r) = always
 guard-of m j (Same r) = eq (m + r) j
 guard-of m j (Differs r) = neq (m + r) j
 
+-- the action of a pattern at component j
 abbrev pub action-of : ℕ → ℕ → Pattern → Action
 action-of m j Any = nop
 action-of m j (Write r) = assign (m + r) j

@@ -1,8 +1,8 @@
 // The theory of the watch: automata, runs, the deciding rule and the ledger. Each function is a theorem, which its contract states.
 use kinds::kind::Kind;
 use kinds::phase::Phase;
-ghost use Rattle.topl.specs.Theorems.{Bounded, Certain, Enumerates, Few-steps, Finding, Gains, Labels-join, Needs, Persists, Places-agree, Recognizes, Replays, Rule-in-words, Stepping, Tested, Verdicts, Watching};
-ghost use Rattle.topl.specs.History.{Answered, Determined, One-run, Refusing, Stays-sound, Telling};
+ghost use Rattle.topl.specs.Theorems.{Bounded, Certain, Enumerates, Few-steps, Finding, Gains, Labels-join, Larger-rules-alike, Needs, Persists, Places-agree, Recognizes, Replays, Rule-in-words, Stepping, Tested, Verdicts, Watching};
+ghost use Rattle.topl.specs.History.{Answered, Books-count, Determined, Draws-take-one, Judges-each-once, One-run, Refusing, Ruled, Stays-sound, Telling, Telling-on};
 ghost use Rattle.topl.specs.Days.{Tells-of, Worked, stale-end};
 ghost use Rattle.topl.specs.Examples.{Examples, Excluded};
 
@@ -71,6 +71,11 @@ pub fn histories_are_true()
     ensures { λ _. ⌜ Telling ⌝ }
 {}
 
+// So is every history from a moment whose ledger is sound.
+pub fn true_histories_go_on()
+    ensures { λ _. ⌜ Telling-on ⌝ }
+{}
+
 // All paths that a history writes are those of one run.
 pub fn paths_show_one_run()
     ensures { λ _. ⌜ One-run ⌝ }
@@ -91,7 +96,7 @@ pub fn worked_days_hold()
     ensures { λ _. ⌜ Worked ⌝ }
 {}
 
-// A worked history for each clause that no worked day shows.
+// Worked histories for clauses that no worked day shows.
 pub fn worked_examples_hold()
     ensures { λ _. ⌜ Examples ⌝ }
 {}
@@ -129,6 +134,31 @@ pub fn the_need_is_counted()
 // Each refusal is answered exactly if its condition holds and no earlier one does.
 pub fn refusals_are_tried_in_order()
     ensures { λ _. ⌜ Refusing ⌝ }
+{}
+
+// The judged list is the events of the feeds and draws answered running or broken, each once, in call order.
+pub fn judged_events_are_the_answered_ones()
+    ensures { λ _. ⌜ Judges-each-once ⌝ }
+{}
+
+// A draw takes the first waiting event, or nothing where the phase refuses it.
+pub fn draws_take_one_event()
+    ensures { λ _. ⌜ Draws-take-one ⌝ }
+{}
+
+// The phase after a feed or a close is the one that the deciding rule names.
+pub fn phases_come_by_the_rule()
+    ensures { λ _. ⌜ Ruled ⌝ }
+{}
+
+// A larger cap and a larger book change no ruling but spilled and full.
+pub fn a_larger_book_rules_alike()
+    ensures { λ _. ⌜ Larger-rules-alike ⌝ }
+{}
+
+// The rule counts the entries of the book, and 16,384 where it has more.
+pub fn long_books_count_alike()
+    ensures { λ _. ⌜ Books-count ⌝ }
 {}
 
 // The class of a place is the place of the classes, for every kind.
