@@ -1,0 +1,3 @@
+// Tests of the listing on journals of both kinds, with every refusal that a journal has.
+#[cfg(test)]
+mod tests;
