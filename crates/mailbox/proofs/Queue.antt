@@ -7,7 +7,6 @@ use lib.ListN.{length, getD}
 use Rattle.std.proofs.shelf.Lists.{map-append, nil-from-length}
 use Rattle.std.specs.Holes.{removed}
 use Rattle.std.specs.Of.VecDeque.{deque-items, deque-len}
-use Rattle.std.specs.Options.{Cases as BySome}
 use Rattle.std.specs.declared.collections.VecDeque.{VecDeque}
 use Rattle.std.specs.declared.option.Option.{Option}
 use Rattle.std.specs.declared.option.Option.the-variants.{Some, None}
@@ -16,7 +15,7 @@ use Rattle.kinds.specs.declared.refusal.Ending.the-variants.{End}
 use Rattle.kinds.specs.declared.refusal.Layer.the-variants.{Mailbox as mailbox}
 use Rattle.kinds.specs.declared.refusal.Reason.{Reason}
 use Rattle.kinds.specs.declared.refusal.Refusal.{Refusal}
-use Rattle.mailbox.specs.Mail.{Put, Unfit}
+use Rattle.mailbox.specs.Mail.{First-out, Put, Unfit}
 use Rattle.sources.specs.Events.{Happening}
 use Rattle.sources.specs.Sayings.{says}
 use Rattle.sources.specs.Sources.{Next}
@@ -32,7 +31,7 @@ from-front (y ∷ ys) x h e = ap (λ z. z ∷ ys) (sym e)
 
 -- The first event is taken out.
 pub taken : {V Z : Type 0} (q q′ : VecDeque (Event V) Z) (o : Option (Event V))
-    → BySome o ((deque-len q ≤ 0) × (q′ ≡ q)) (λ y. (y ≡ getD (deque-items q) 0 y) × ((deque-items q′ ≡ removed (deque-items q) 0) × ((deque-len q′ + 1 ≡ deque-len q) × (0 < deque-len q))))
+    → First-out q o q′
     → Next (map says (deque-items q)) End (Ok o) (map says (deque-items q′)) End
 taken q q′ None h =
     (ap (map says) (nil-from-length (q .items) (let k = h .0 in let l = q .ok .0 in omega arith)), refl, ap (λ z. map says (deque-items z)) (h .1), refl)

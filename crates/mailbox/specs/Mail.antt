@@ -2,9 +2,13 @@
 use mathlib.Core.Path.{_≡_}
 use mathlib.Core.Logic.{_⊎_}
 use mathlib.Core.List.{List, [], _∷_, _++_, map}
-use Prim.Native.Nat.{ℕ, _≤_, _<_}
-use lib.ListN.{length}
-use Rattle.std.specs.Of.VecDeque.{deque-items}
+use Prim.Native.Nat.{ℕ, _+_, _≤_, _<_}
+use lib.ListN.{getD, length}
+use Rattle.std.specs.Holes.{removed}
+use Rattle.std.specs.Of.VecDeque.{deque-items, deque-len}
+use Rattle.std.specs.Options.{Cases as BySome}
+use Rattle.std.specs.declared.collections.VecDeque.{VecDeque}
+use Rattle.std.specs.declared.option.Option.{Option}
 use Rattle.std.specs.declared.result.Result.{Result}
 use Rattle.std.specs.declared.result.Result.the-variants.{Ok, Err}
 use Rattle.kinds.specs.declared.refusal.Layer.the-variants.{Mailbox as mailbox}
@@ -34,6 +38,12 @@ Unfit room held h r = Unlawful h r ⊎ ((r ≡ NoRoom) × Lawful h × (room ≤ 
 abbrev pub Put : {V : Type 0} → ℕ → List (Happening V) → Happening V → Result (Unit {0}) Refusal → List (Happening V) → Type 0
 Put room hs h (Ok _) hs′ = Lawful h × (length hs < room) × (hs′ ≡ hs ++ h ∷ [])
 Put room hs h (Err f) hs′ = Unfit room (length hs) h (f .reason) × (f .layer ≡ mailbox) × (f .place ≡ length hs) × (hs′ ≡ hs)
+
+-- The first of a queue is taken out of it; an empty queue stays as it is.
+abbrev pub First-out : {X Z : Type 0} → VecDeque X Z → Option X → VecDeque X Z → Type 0
+First-out q r q′ =
+    BySome r ((deque-len q ≤ 0) × (q′ ≡ q))
+    (λ x. (x ≡ getD (deque-items q) 0 x) × ((deque-items q′ ≡ removed (deque-items q) 0) × ((deque-len q′ + 1 ≡ deque-len q) × (0 < deque-len q))))
 
 -- Why only lawful events wait; the source's ghost member cites it.
 pub all-lawful : {V : Type 0} (es : List (Event V)) → All-lawful (map says es)

@@ -2,10 +2,10 @@
 ghost use mathlib.Core.Path.{_≡_};
 ghost use mathlib.Core.List.{[]};
 ghost use Prim.Native.Nat.{min};
-ghost use Rattle.std.specs.Of.VecDeque.{deque-items};
+ghost use Rattle.std.specs.Of.VecDeque.{deque-cap, deque-items};
 ghost use Rattle.std.specs.Vec.{made};
 ghost use Rattle.kinds.specs.declared.refusal.Ending.the-variants.{End};
-ghost use Rattle.mailbox.specs.Mail.{Put, all-lawful, places, waits};
+ghost use Rattle.mailbox.specs.Mail.{First-out, Put, all-lawful, places, waits};
 use crate::held::Mailbox;
 use kinds::kind::Kind;
 use kinds::refusal::Layer;
@@ -29,6 +29,17 @@ fn refusal(reason: Reason, place: usize) -> Refusal
         reason,
         place,
     }
+}
+
+// The place of the event that is handed over next.
+const FIRST: usize = 0;
+
+// Takes the first of a queue out of it.
+fn take_first<T>(queue: &mut VecDeque<T>) -> Option<T>
+    ensures out { λ r. ⌜ First-out (now (queue .entry)) r (now (queue .exit)) ⌝ }
+    ensures capacity { λ _. ⌜ deque-cap (now (queue .exit)) ≡ deque-cap (now (queue .entry)) ⌝ }
+{
+    queue.remove(FIRST)
 }
 
 impl<K: Kind> Mailbox<K> {
@@ -67,6 +78,6 @@ pub impl<K: Kind> Source<K> for Mailbox<K> as MailboxSource {
     ghost lawful = { λ m. all-lawful (deque-items (m .queue)) };
 
     fn next(&mut self) -> Result<Option<Event<K::Value>>, Refusal> {
-        Ok(self.queue.remove(0))
+        Ok(take_first(&mut self.queue))
     }
 }
