@@ -1,4 +1,10 @@
 // Refusals: which layer found a fault, what it is, and where.
+use crate::text_reason::TextReason;
+use crate::text_reason::TextReasonDebug;
+use crate::text_reason::TextReasonPartialEq;
+use crate::watch_reason::WatchReason;
+use crate::watch_reason::WatchReasonDebug;
+use crate::watch_reason::WatchReasonPartialEq;
 ghost use mathlib.Core.Path.{_≡_};
 ghost use Rattle.kinds.specs.Refusals.{name-of, number-of, placed};
 
@@ -30,6 +36,10 @@ pub enum Reason {
     BadLabel,
     // a journal has over 65,536 bytes
     TooLong,
+    // what only a text is refused for
+    Text(TextReason),
+    // what only a watch refuses
+    Watch(WatchReason),
 }
 
 // A fault as the layer finds it, before anyone has told its place.
@@ -76,6 +86,8 @@ impl Reason {
             Reason::TooManyValues => 5,
             Reason::BadLabel => 6,
             Reason::TooLong => 7,
+            Reason::Text(r) => r.number(),
+            Reason::Watch(reason) => reason.number(),
         }
     }
 }

@@ -1,0 +1,14 @@
+pub mod Basics
+pub mod Lawful
+pub mod Persist
+pub mod Enumerate
+pub mod Chain
+pub mod Translate
+pub mod Language
+pub mod Deciding
+pub mod Gain
+pub mod Resume
+pub mod Step
+pub mod Replays
+pub mod Verdicts
+pub mod Bounded

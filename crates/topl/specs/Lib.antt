@@ -1,0 +1,10 @@
+pub mod Lists
+pub mod Automata
+pub mod Table
+pub mod Translation
+pub mod Runs
+pub mod Rows
+pub mod Deciding
+pub mod Ledger
+pub mod Theorems
+pub mod History
