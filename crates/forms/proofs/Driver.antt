@@ -150,15 +150,15 @@ module _ {P V : Type 0} (G : Grammar P V) (law : Lawful G) where
   -- The piece stands before some text that goes on.
   stands-before : (p q : P) (a : ℕ) (x : Piece) (s sp b r u : List ℕ) → Next (G .tight p) x s sp b r → G .after p x a ≡ Some q
       → (G .tight q ≡ false → Stops wordy u) → Next (G .tight p) x ((sp ++ b) ++ u) sp b u
-  stands-before p q a x s sp b r u h g f = by (G .tight p) x h g
+  stands-before p q a x s sp b r u h g f = by (G .tight p) x refl h g
     where
-      by : (t : Bool) (x : Piece) → Next t x s sp b r → G .after p x a ≡ Some q → Next t x ((sp ++ b) ++ u) sp b u
-      by false (word w) h g = (append-assoc sp b u, h .1, (h .2 .0, h .2 .1, h .2 .2, f (law .word-loose p q w a g)))
-      by false (number w) h g = (append-assoc sp b u, h .1, (h .2 .0, h .2 .1, h .2 .2, digit-stops u (f (law .number-loose p q w a g))))
-      by false (mark m) h g = (append-assoc sp b u, h .1, h .2)
-      by true (word w) h g = absurd h
-      by true (number w) h g = absurd h
-      by true (mark m) h g = (ap (λ (y : List ℕ). (y ++ b) ++ u) (h .1), h .1, h .2)
+      by : (t : Bool) (x : Piece) → G .tight p ≡ t → Next t x s sp b r → G .after p x a ≡ Some q → Next t x ((sp ++ b) ++ u) sp b u
+      by false (word w) e h g = (append-assoc sp b u, h .1, (h .2 .0, h .2 .1, h .2 .2, f (law .word-loose p q w a e (h .2 .2) g)))
+      by false (number w) e h g = (append-assoc sp b u, h .1, (h .2 .0, h .2 .1, h .2 .2, digit-stops u (f (law .number-loose p q w a e (h .2 .1) (h .2 .2) g))))
+      by false (mark m) e h g = (append-assoc sp b u, h .1, h .2)
+      by true (word w) e h g = absurd h
+      by true (number w) e h g = absurd h
+      by true (mark m) e h g = (ap (λ (y : List ℕ). (y ++ b) ++ u) (h .1), h .1, h .2)
 
   -- A piece that may stand here, with no fault: reading goes on after it.
   pub pass : (p q : P) (a : ℕ) (x : Piece) (s sp b r : List ℕ) → Next (G .tight p) x s sp b r → G .after p x (a + length sp) ≡ Some q

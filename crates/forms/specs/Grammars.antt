@@ -6,7 +6,7 @@ use Prim.Native.Nat.{ℕ, _+_}
 use lib.ListN.{length}
 use Rattle.std.specs.declared.option.Option.{Option}
 use Rattle.std.specs.declared.option.Option.the-variants.{Some, None}
-use Rattle.forms.specs.Bytes.{space, wordy, Every, Stops}
+use Rattle.forms.specs.Bytes.{space, digit, wordy, Every, Stops, Word, Decimal}
 use Rattle.forms.specs.Forms.{Form}
 use Rattle.forms.specs.Pieces.{Piece, word, number, mark, head-of, Next}
 
@@ -62,5 +62,6 @@ module _ {P V : Type 0} (G : Grammar P V) where
   pub record Lawful : Type 0 where
     pub lives : (p : P) (a : ℕ) → Lives p a
     pub whole : (p : P) (s : List ℕ) → G .tight p ≡ true → G .ends p s ≡ None
-    pub word-loose : (p q : P) (w : List ℕ) (k : ℕ) → G .after p (word w) k ≡ Some q → G .tight q ≡ false
-    pub number-loose : (p q : P) (d : List ℕ) (k : ℕ) → G .after p (number d) k ≡ Some q → G .tight q ≡ false
+    pub word-loose : (p q : P) (w : List ℕ) (k : ℕ) → G .tight p ≡ false → Word w → G .after p (word w) k ≡ Some q → G .tight q ≡ false
+    pub number-loose : (p q : P) (d : List ℕ) (k : ℕ) → G .tight p ≡ false → Every digit d → Decimal d → G .after p (number d) k ≡ Some q
+        → G .tight q ≡ false

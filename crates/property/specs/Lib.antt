@@ -1,0 +1,7 @@
+pub mod Cursors
+pub mod Grammar
+pub mod Marks
+pub mod Reading
+pub mod States
+pub mod Views
+pub mod Words

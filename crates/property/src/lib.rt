@@ -1,0 +1,9 @@
+// A property: the table of its methods, states, registers and statements, and the reader of its text.
+pub mod cursor;
+pub mod draft;
+pub mod flaws;
+pub mod marks;
+pub mod opens;
+pub mod spot;
+pub mod table;
+pub mod words;
