@@ -80,7 +80,7 @@ with-register k P = record { name = P .name; methods = P .methods; others = P .o
 abbrev pub with-statement : Statement → Property → Property
 with-statement s P = record { name = P .name; methods = P .methods; others = P .others; registers = P .registers; statements = P .statements ++ s ∷ [] }
 
--- STATES. `start` is 0, `error` is 1, and the others follow.
+-- STATES. `start` is 0, `error` is 1, and the others follow; all past the fifteenth have one number, since no text may have so many.
 abbrev pub is-start : List ℕ → Bool
 is-start w = same w (codes "start")
 
@@ -88,7 +88,7 @@ abbrev pub is-error : List ℕ → Bool
 is-error w = same w (codes "error")
 
 abbrev pub state-number : List (List ℕ) → List ℕ → ℕ
-state-number ws w = cond (is-start w) 0 (cond (is-error w) 1 (2 + find (same w) ws))
+state-number ws w = cond (is-start w) 0 (cond (is-error w) 1 (cond (ltb (find (same w) ws) 14) (2 + find (same w) ws) 16))
 
 -- A state that is neither `start` nor `error` and was not written yet.
 abbrev pub fresh-other : List (List ℕ) → List ℕ → Bool
@@ -148,8 +148,11 @@ ninth P k = ninth-in (P .registers) k
 abbrev pub method-place : Property → List ℕ → ℕ
 method-place P w = find (λ m. same w (m .name)) (P .methods)
 
+abbrev pub method-in : List Declared → List ℕ → Declared
+method-in ms w = getD ms (find (λ m. same w (m .name)) ms) (record { name = []; number = 0; arity = 0 })
+
 abbrev pub method-of : Property → List ℕ → Declared
-method-of P w = getD (P .methods) (method-place P w) (record { name = []; number = 0; arity = 0 })
+method-of P w = method-in (P .methods) w
 
 -- PATTERNS
 -- A pattern of a register is read, which began at place k.
@@ -170,6 +173,10 @@ begins w c k p =
     cond (eqb c 42) (at (filled (record { pattern = patterns.Any; place = k }) (p .cursor)) p)
     (cond (eqb c 33) (at (to (spots.Inner inners.Negated) (labelled (placed k (p .cursor .label)) (p .cursor))) p)
     (cond (eqb c 60) (at (to (spots.Inner inners.Quoted) (labelled (placed k (p .cursor .label)) (p .cursor))) p) (variable w k p)))
+
+-- A label that stands for the call and the return begins, with its returned pattern.
+abbrev pub whole-begins : List ℕ → ℕ → ℕ → State → State
+whole-begins w c k p = begins w c k (at (counted 0 (labelled (opened kinds.Both k) (p .cursor))) p)
 
 -- LINES
 -- A statement ends.
@@ -205,10 +212,21 @@ abbrev pub calling : List ℕ → State → State
 calling w p =
     at (callee-at (p .cursor .label .kind) (labelled (naming (method-of (p .sofar) w .number) (method-of (p .sofar) w .arity) (p .cursor .label)) (p .cursor))) p
 
+-- Before the keyword of the first line, and in it.
+abbrev pub margin : ℕ → Cursor → Cursor
+margin c u = cond (eqb c 32) u (to (spots.Head heads.Keyword) (counted 1 u))
+
+abbrev pub keyword : Cursor → Cursor
+keyword u = cond (eqb (u .count) 7) (to (spots.Head heads.Gap) u) (counted (one-more (u .count)) u)
+
+-- The number that digits write; all over 65,535 stand as one, since no text may have them.
+abbrev pub capped : List ℕ → ℕ
+capped w = cond (leb (value w) 65535) (value w) 65536
+
 -- WHAT A PIECE DOES at each spot: w are its bytes, c is the first of them, k its place.
 abbrev pub head-moved : Head → State → List ℕ → ℕ → State
-head-moved heads.Margin p w c = cond (eqb c 32) p (at (to (spots.Head heads.Keyword) (counted 1 (p .cursor))) p)
-head-moved heads.Keyword p w c = cond (eqb (p .cursor .count) 7) (turned (spots.Head heads.Gap) p) (at (counted (one-more (p .cursor .count)) (p .cursor)) p)
+head-moved heads.Margin p w c = at (margin c (p .cursor)) p
+head-moved heads.Keyword p w c = at (keyword (p .cursor)) p
 head-moved heads.Gap p w c = turned (spots.Head heads.Title) p
 head-moved heads.Title p w c = record { cursor = to (spots.Line lines.Ending) (p .cursor); word = p .word; sofar = named w (p .sofar) }
 
@@ -216,11 +234,11 @@ abbrev pub line-moved : Line → State → List ℕ → State
 line-moved lines.Ending p w = turned (spots.Line lines.Fresh) p
 line-moved lines.Fresh p w = cond (declares p w) (turned (spots.Line lines.MethodName) p) (leaving w p)
 line-moved lines.MethodName p w = record { cursor = to (spots.Line lines.MethodNumber) (p .cursor); word = w; sofar = p .sofar }
-line-moved lines.MethodNumber p w = at (to (spots.Line lines.MethodArity) (numbered (value w) (p .cursor))) p
+line-moved lines.MethodNumber p w = at (to (spots.Line lines.MethodArity) (numbered (capped w) (p .cursor))) p
 line-moved lines.MethodArity p w = record {
   cursor = to (spots.Line lines.Ending) (p .cursor);
   word = p .word;
-  sofar = with-method (record { name = p .word; number = p .cursor .number; arity = value w }) (p .sofar);
+  sofar = with-method (record { name = p .word; number = p .cursor .number; arity = capped w }) (p .sofar);
 }
 
 abbrev pub route-moved : Route → State → List ℕ → State
@@ -234,7 +252,7 @@ label-moved labels.Begin p w c k =
     cond (eqb c 42) (turned (spots.Label labels.Star) p)
     (cond (same w (codes "call")) (at (to (spots.Label labels.Callee) (counted 1 (labelled (opened kinds.Call k) (p .cursor)))) p)
     (cond (same w (codes "ret")) (at (to (spots.Inner inners.Returned) (counted 0 (labelled (opened kinds.Return k) (p .cursor)))) p)
-    (begins w c k (at (counted 0 (labelled (opened kinds.Both k) (p .cursor))) p))))
+    (whole-begins w c k p)))
 label-moved labels.Star p w c k =
     cond (eqb c 58) (at (to (spots.Label labels.Equals) (counted 1 (labelled (opened kinds.Both k) (p .cursor)))) p)
     (cond (eqb c 59) (at (to (spots.Label labels.Begin) (met events.Any (p .cursor))) p) (ends-statement (at (met events.Any (p .cursor)) p)))
@@ -242,7 +260,7 @@ label-moved labels.Becomes p w c k = turned (spots.Label labels.Equals) p
 label-moved labels.Equals p w c k = turned (spots.Label labels.Callee) p
 label-moved labels.Callee p w c k = calling w p
 label-moved labels.Open p w c k = turned (spots.Inner inners.First) p
-label-moved labels.Comma p w c k = cond (eqb c 44) (turned (spots.Inner inners.Param) p) (at (finished (p .cursor)) p)
+label-moved labels.Comma p w c k = at (cond (eqb c 44) (to (spots.Inner inners.Param) (p .cursor)) (finished (p .cursor))) p
 label-moved labels.End p w c k = cond (eqb c 59) (turned (spots.Label labels.Begin) p) (ends-statement p)
 
 abbrev pub inner-moved : Inner → State → List ℕ → ℕ → ℕ → State

@@ -3,6 +3,7 @@ pub mod cursor;
 pub mod draft;
 pub mod flaws;
 pub mod marks;
+pub mod moves;
 pub mod opens;
 pub mod spot;
 pub mod table;

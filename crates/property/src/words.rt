@@ -9,7 +9,7 @@ ghost use Prim.Native.Nat.{_≤_, _<_};
 ghost use lib.ListN.{length, drop};
 ghost use Rattle.property.specs.Marks.{in-class};
 ghost use Rattle.property.specs.Reading.{Passed};
-ghost use Rattle.property.specs.States.{key, same-key, ninth-in};
+ghost use Rattle.property.specs.States.{key, same-key, ninth-in, capped as most};
 ghost use Rattle.property.specs.Views.{spelled as spelling, declared, key-of};
 ghost use Rattle.property.specs.Words as word;
 use crate::marks::*;
@@ -214,4 +214,12 @@ pub fn next_word<'a>(text: &'a [u8], at: usize) -> &'a [u8]
     let from = skip(text, Class::Spaces, at);
     let to = skip(text, Class::Wordy, from);
     &text[from..to]
+}
+
+// The number that digits write, where all over 65,535 stand as one.
+pub fn capped(digits: &[u8]) -> u32
+    ensures { λ r. ⌜ r ≡ most (now (digits .entry)) ⌝ }
+{
+    let v = decimal(digits);
+    if v > 65535 { 65536 } else { v }
 }
