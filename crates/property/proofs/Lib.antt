@@ -1,3 +1,5 @@
+pub mod Lawfulness
+pub mod Living
 pub mod Pushes
 pub mod Searching
 pub mod Texts

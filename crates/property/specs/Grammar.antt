@@ -34,7 +34,7 @@ use Rattle.property.specs.declared.spot.Spot.the-variants as spots
 -- In the keyword of the first line, of which n letters have been read.
 abbrev pub head-opens : Head → ℕ → ℕ → Bool
 head-opens heads.Margin n c = eqb c 32 || eqb c 112
-head-opens heads.Keyword n c = ltb n 8 && eqb c (getD (codes "property") n 0)
+head-opens heads.Keyword n c = eqb c (getD (codes "property") n 121)
 head-opens heads.Gap n c = eqb c 32
 head-opens heads.Title n c = letter c
 

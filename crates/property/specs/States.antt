@@ -217,7 +217,7 @@ abbrev pub margin : ℕ → Cursor → Cursor
 margin c u = cond (eqb c 32) u (to (spots.Head heads.Keyword) (counted 1 u))
 
 abbrev pub keyword : Cursor → Cursor
-keyword u = cond (eqb (u .count) 7) (to (spots.Head heads.Gap) u) (counted (one-more (u .count)) u)
+keyword u = cond (ltb (u .count) 7) (counted (u .count + 1) u) (to (spots.Head heads.Gap) u)
 
 -- The number that digits write; all over 65,535 stand as one, since no text may have them.
 abbrev pub capped : List ℕ → ℕ

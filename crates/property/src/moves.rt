@@ -123,10 +123,10 @@ impl Cursor {
     fn keyword(mut self) -> Cursor
         ensures { λ r. ⌜ r ≡ state.keyword self ⌝ }
     {
-        if self.count == 7 {
-            self.spot = Spot::Head(Head::Gap);
-        } else if self.count < 7 {
+        if self.count < 7 {
             self.count += 1;
+        } else {
+            self.spot = Spot::Head(Head::Gap);
         }
         self
     }

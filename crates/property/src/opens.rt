@@ -35,7 +35,7 @@ impl Head {
     {
         match self {
             Head::Margin => b == b' ' || b == b'p',
-            Head::Keyword => count < 8 && b == KEYWORD[count],
+            Head::Keyword => b == KEYWORD[count.min(7)],
             Head::Gap => b == b' ',
             Head::Title => begins_name(b),
         }
