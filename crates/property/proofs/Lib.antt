@@ -1,5 +1,6 @@
 pub mod Lawfulness
 pub mod Living
 pub mod Pushes
+pub mod Readings
 pub mod Searching
 pub mod Texts

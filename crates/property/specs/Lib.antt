@@ -3,6 +3,7 @@ pub mod Grammar
 pub mod Marks
 pub mod Moves
 pub mod Reading
+pub mod Reads
 pub mod States
 pub mod Views
 pub mod Words

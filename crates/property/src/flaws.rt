@@ -183,16 +183,6 @@ fn is_capital(b: u8) -> bool
     }
 }
 
-// Whether a byte is a letter.
-fn is_letter(b: u8) -> bool
-    ensures { λ r. ⌜ r ≡ letter b ⌝ }
-{
-    match classify(b as char) {
-        Mark::Capital | Mark::Small => true,
-        _ => false,
-    }
-}
-
 // Whether a word begins as a constant or as a variable that is read.
 fn well_begun(constant: bool, w: &[u8]) -> bool
     ensures { λ r. ⌜ r ≡ cond constant (letter (first-byte (now (w .entry)))) (small (first-byte (now (w .entry)))) ⌝ }

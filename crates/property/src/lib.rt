@@ -5,6 +5,7 @@ pub mod flaws;
 pub mod marks;
 pub mod moves;
 pub mod opens;
+pub mod reader;
 pub mod spot;
 pub mod table;
 pub mod words;

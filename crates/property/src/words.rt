@@ -4,7 +4,7 @@ ghost use mathlib.Core.Bool.{true, false, cond};
 ghost use mathlib.Core.List.{map};
 ghost use Prim.Native.Nat.{_+_};
 ghost use lib.Dec.{eqb, leb, ltb};
-ghost use Rattle.forms.specs.Bytes.{capital, value, space, wordy};
+ghost use Rattle.forms.specs.Bytes.{capital, letter, value, space, wordy};
 ghost use Prim.Native.Nat.{_≤_, _<_};
 ghost use lib.ListN.{length, drop};
 ghost use Rattle.property.specs.Marks.{in-class};
@@ -222,4 +222,14 @@ pub fn capped(digits: &[u8]) -> u32
 {
     let v = decimal(digits);
     if v > 65535 { 65536 } else { v }
+}
+
+// Whether a byte is a letter.
+pub fn is_letter(b: u8) -> bool
+    ensures { λ r. ⌜ r ≡ letter b ⌝ }
+{
+    match classify(b as char) {
+        Mark::Capital | Mark::Small => true,
+        _ => false,
+    }
 }
