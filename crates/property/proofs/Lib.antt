@@ -1,3 +1,5 @@
+pub mod Exits
+pub mod Leasts
 pub mod Lawfulness
 pub mod Living
 pub mod Pushes

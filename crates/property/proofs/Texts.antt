@@ -21,6 +21,12 @@ split t p q h =
 pub length-slice : (t : List ℕ) (p q : ℕ) → p ≤ q → q ≤ length t → length (slice t p q) ≡ q - p
 length-slice t p q h l = length-take-le (q - p) (drop p t) (omega (arith, length-drop p t))
 
+pub slices : (t : List ℕ) (p q r : ℕ) → p ≤ q → q ≤ r → slice t p q ++ slice t q r ≡ slice t p r
+slices t p q r h l =
+    append-cancel-right (slice t p q ++ slice t q r) (slice t p r) (drop r t)
+    (append-assoc (slice t p q) (slice t q r) (drop r t)
+    ∙ (ap (λ (x : List ℕ). slice t p q ++ x) (sym (split t q r l)) ∙ (sym (split t p q h) ∙ split t p r (omega arith))))
+
 every-take : (c : ℕ → Bool) (s : List ℕ) (n : ℕ) → n ≤ length s → ((k : ℕ) → k < n → c (getD s k 0) ≡ true) → Every c (take n s)
 every-take c s zero h f = tt
 every-take c [] (suc n) h f = tt

@@ -7,7 +7,8 @@ ghost use lib.ListN.{length, getD};
 ghost use Rattle.std.specs.Results.{Cases};
 ghost use Rattle.forms.specs.Bytes.{digit, space};
 ghost use Rattle.kinds.specs.Refusals.{text-number};
-ghost use Rattle.property.specs.Reads.{Gapped, Lexed, Halts, Comes-next};
+ghost use Rattle.property.specs.Reads.{Gapped, Lexed, Halts, Comes-next, Read};
+ghost use Rattle.property.specs.Grammar.{tight-at};
 ghost use Rattle.property.specs.Views.{view};
 use crate::draft::*;
 use crate::marks::*;
@@ -81,5 +82,55 @@ impl Reader<'_> {
             });
         }
         Ok(end)
+    }
+
+    // What comes next for a draft of the text: a piece that may stand there, or the end.
+    pub fn next(&self, draft: &Draft) -> Result<Option<Found>, Flaw>
+        requires { ⌜ now self .place ≤ length (now (now self .text)) ⌝ }
+        ensures { λ r. ⌜ Cases r
+            (λ o. Comes-next (view (now (now (self .entry) .text)) (now (draft .entry))) (now (now (self .entry) .text)) (now (self .entry) .place) o)
+            (λ e. Halts (view (now (now (self .entry) .text)) (now (draft .entry))) (now (now (self .entry) .text)) (now (self .entry) .place) (text-number (e .reason)) (e .place)) ⌝ }
+    {
+        let spot = draft.cursor.spot;
+        let from = self.start(spot.tight());
+        if from == self.text.len() {
+            let place = self.place;
+            if spot.ends(&self.text[place..from]) {
+                return Ok(None);
+            }
+            return Err(Flaw {
+                reason: TextReason::NoForm,
+                place: from,
+            });
+        }
+        let found = self.piece(draft, from)?;
+        Ok(Some(found))
+    }
+
+    // The piece that begins at a place, where it may stand for a draft and has no fault.
+    fn piece(&self, draft: &Draft, from: usize) -> Result<Found, Flaw>
+        requires gap { ⌜ Gapped (tight-at (now draft .cursor .spot)) (now (now self .text)) (now self .place) from ⌝ }
+        requires within { ⌜ from < length (now (now self .text)) ⌝ }
+        ensures { λ r. ⌜ Cases r
+            (λ x. Read (view (now (now (self .entry) .text)) (now (draft .entry))) (now (now (self .entry) .text)) (now (self .entry) .place) x)
+            (λ e. Halts (view (now (now (self .entry) .text)) (now (draft .entry))) (now (now (self .entry) .text)) (now (self .entry) .place) (text-number (e .reason)) (e .place)) ⌝ }
+    {
+        let spot = draft.cursor.spot;
+        let byte = self.text[from];
+        if !spot.opens(draft.cursor.count, byte) {
+            return Err(Flaw {
+                reason: TextReason::NoForm,
+                place: from,
+            });
+        }
+        let to = self.end(spot.tight(), from)?;
+        let name = Name { from, to };
+        if let Some(reason) = draft.flaw(self.text, &self.text[from..to], byte, to) {
+            return Err(Flaw {
+                reason,
+                place: from,
+            });
+        }
+        Ok(Found { name, byte })
     }
 }
