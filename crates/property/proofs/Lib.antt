@@ -6,3 +6,4 @@ pub mod Pushes
 pub mod Readings
 pub mod Searching
 pub mod Texts
+pub mod Wholes

@@ -74,3 +74,7 @@ module _ {A B : Type 0} (g : A → B) (f : B → Bool) where
 
   pub some-all : (xs : List A) (i : ℕ) → length xs ≤ i → Some-left xs i → false ≡ some f (map g xs)
   some-all xs i h left = sym (left ∙ ap (λ (y : List A). some f (map g y)) (drop-all i xs h))
+
+pub map-same : {A : Type 0} (xs : List A) → map (λ (x : A). x) xs ≡ xs
+map-same [] = refl
+map-same (x ∷ xs) = ap (λ (ys : List _). x ∷ ys) (map-same xs)

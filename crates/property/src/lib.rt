@@ -8,4 +8,5 @@ pub mod opens;
 pub mod reader;
 pub mod spot;
 pub mod table;
+pub mod text;
 pub mod words;

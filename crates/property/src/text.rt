@@ -1,0 +1,112 @@
+// Reading a whole property text into a draft.
+ghost use mathlib.Core.Path.{_≡_};
+ghost use Rattle.std.specs.Results.{Cases};
+ghost use Rattle.forms.specs.Forms.{Accepted};
+ghost use Rattle.property.specs.Grammar.{any-text, property-text};
+ghost use Rattle.property.specs.States.{nothing-read, routed as routes};
+ghost use Rattle.property.specs.Outcomes.{Explains, Explains-bounded};
+ghost use Rattle.property.specs.Views.{view, sofar};
+ghost use Rattle.property.specs.declared.text.Failure.the-variants.{At, Memory};
+ghost use mathlib.Core.List.{List};
+ghost use Prim.Native.Nat.{ℕ};
+ghost use lib.Dec.{eqb};
+ghost use Rattle.property.specs.Words.{some};
+use crate::cursor::*;
+use crate::draft::*;
+use crate::moves::*;
+use crate::reader::*;
+use crate::table::*;
+use kinds::text_reason::TextReason;
+use std::alloc::Global;
+
+// Why a text gives no draft: a fault of the text, or want of memory.
+#[derive(Clone, Copy)]
+pub enum Failure {
+    At(Flaw),
+    Memory,
+}
+
+impl From<Flaw> for Failure as FlawFailure {
+    ghost converts = { λ x y. y ≡ At x };
+
+    fn from(f: Flaw) -> Failure {
+        Failure::At(f)
+    }
+}
+
+impl From<Short> for Failure as ShortFailure {
+    ghost converts = { λ _ y. y ≡ Memory };
+
+    fn from(_s: Short) -> Failure {
+        Failure::Memory
+    }
+}
+
+impl Draft {
+    // Before the text.
+    pub fn new(heap: Global) -> Draft
+        ensures { λ r. ⌜ ((t : List ℕ) → view t r ≡ nothing-read) ⌝ }
+    {
+        let nowhere = Name { from: 0, to: 0 };
+        Draft {
+            cursor: Cursor::origin(),
+            word: nowhere,
+            name: nowhere,
+            methods: Vec::new(heap),
+            others: Vec::new(heap),
+            registers: Vec::new(heap),
+            statements: Vec::new(heap),
+        }
+    }
+}
+
+// Whether some statement leaves `start`, and some leads to `error`.
+fn routed(statements: &[Statement]) -> bool
+    ensures { λ r. ⌜ r ≡ routes (now (statements .entry)) ⌝ }
+{
+    leaves_start(statements) && reaches_error(statements)
+}
+
+// Whether some statement leaves `start`.
+fn leaves_start(statements: &[Statement]) -> bool
+    ensures { λ r. ⌜ r ≡ some (λ s. eqb (s .source) 0) (now (statements .entry)) ⌝ }
+{
+    for s in statements {
+        if s.source == 0 {
+            return true;
+        }
+    }
+    false
+}
+
+// Whether some statement leads to `error`.
+fn reaches_error(statements: &[Statement]) -> bool
+    ensures { λ r. ⌜ r ≡ some (λ s. eqb (s .target) 1) (now (statements .entry)) ⌝ }
+{
+    for s in statements {
+        if s.target == 1 {
+            return true;
+        }
+    }
+    false
+}
+
+// The draft of a text of any length, or why there is none.
+fn read_any(heap: Global, text: &[u8]) -> Result<Draft, Failure>
+    ensures { λ r. ⌜ Cases r (λ d. Accepted any-text (now (text .entry)) (sofar (now (text .entry)) d)) (λ e. Explains (now (text .entry)) e) ⌝ }
+{
+    let mut draft = Draft::new(heap);
+    let mut reader = Reader { text, place: 0 };
+    while let Some(found) = reader.next(&draft)? {
+        draft.advance(text, found.name, found.byte)?;
+        reader.place = found.name.to;
+    }
+    draft.close(text)?;
+    if !routed(draft.statements.as_slice()) {
+        return Err(Failure::At(Flaw {
+            reason: TextReason::NoRoute,
+            place: text.len(),
+        }));
+    }
+    Ok(draft)
+}
