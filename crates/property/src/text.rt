@@ -1,7 +1,9 @@
 // Reading a whole property text into a draft.
 ghost use mathlib.Core.Path.{_≡_};
 ghost use Rattle.std.specs.Results.{Cases};
-ghost use Rattle.forms.specs.Forms.{Accepted};
+ghost use Rattle.forms.specs.Forms.{Accepted, Before};
+ghost use Rattle.std.specs.Orderings.{Decides};
+ghost use Rattle.kinds.specs.Refusals.{text-number};
 ghost use Rattle.property.specs.Grammar.{any-text, property-text};
 ghost use Rattle.property.specs.States.{nothing-read, routed as routes};
 ghost use Rattle.property.specs.Outcomes.{Explains, Explains-bounded};
@@ -16,6 +18,7 @@ use crate::draft::*;
 use crate::moves::*;
 use crate::reader::*;
 use crate::table::*;
+use forms::finding::Finding;
 use kinds::text_reason::TextReason;
 use std::alloc::Global;
 
@@ -109,4 +112,47 @@ fn read_any(heap: Global, text: &[u8]) -> Result<Draft, Failure>
         }));
     }
     Ok(draft)
+}
+
+impl Flaw {
+    // Whether the fault comes before a byte too many.
+    fn before_limit(self) -> bool
+        ensures { λ r. ⌜ Decides r (Before (text-number (self .reason)) (self .place) 11 8192) ⌝ }
+    {
+        let fault = Finding {
+            number: self.reason.number(),
+            place: self.place,
+        };
+        fault.before(Finding {
+            number: 11,
+            place: 8192,
+        })
+    }
+}
+
+// The draft of a text of at most 8,192 bytes, or why there is none. Unwritten reads are not sought here.
+pub fn read_draft(heap: Global, text: &[u8]) -> Result<Draft, Failure>
+    ensures { λ r. ⌜ Cases r (λ d. Accepted property-text (now (text .entry)) (sofar (now (text .entry)) d)) (λ e. Explains-bounded (now (text .entry)) e) ⌝ }
+{
+    let fault = Flaw {
+        reason: TextReason::TooMuch,
+        place: 8192,
+    };
+    match read_any(heap, text) {
+        Ok(draft) => {
+            if text.len() > 8192 {
+                return Err(Failure::At(fault));
+            }
+            Ok(draft)
+        }
+        Err(e) => match e {
+            Failure::At(f) => {
+                if text.len() > 8192 && !f.before_limit() {
+                    return Err(Failure::At(fault));
+                }
+                Err(Failure::At(f))
+            }
+            Failure::Memory => Err(Failure::Memory),
+        },
+    }
 }
