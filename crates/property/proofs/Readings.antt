@@ -85,9 +85,16 @@ lexed-number t f q x h e plain =
       piece = number (slice t f q);
       low = l;
       high = x .high;
-      stands = (split t f q (x .low), tt, (refl, every-slice digit t f q x,
+      stands = (
+        split t f q (x .low),
+        tt,
+        (
+          refl,
+          every-slice digit t f q x,
           subst Decimal (sym i) (plain-digits (getD t f 0) (slice t (f + 1) q) (λ z. ap (slice t (f + 1)) (plain z) ∙ none-slice t (f + 1))),
-          stops-drop digit t q (x .stops)));
+          stops-drop digit t q (x .stops),
+        ),
+      );
       spells = refl;
       begins = ap (λ (w : List ℕ). head-of (number w)) i;
     }

@@ -57,9 +57,10 @@ front-run : (c : ℕ → Bool) (w r : List ℕ) → Every c w → Stops c r → 
 front-run c [] [] h s = (refl, refl)
 front-run c [] (b ∷ r) h s = (ap (λ (x : Bool). cond x (b ∷ front c r) []) s, ap (λ (x : Bool). cond x (past c r) (b ∷ r)) s)
 front-run c (b ∷ w) r h s =
-    let y = front-run c w r (h .1) s in
-    (ap (λ (x : Bool). cond x (b ∷ front c (w ++ r)) []) (h .0) ∙ ap (λ (x : List ℕ). b ∷ x) (y .0),
-    ap (λ (x : Bool). cond x (past c (w ++ r)) (b ∷ (w ++ r))) (h .0) ∙ y .1)
+    let y = front-run c w r (h .1) s in (
+      ap (λ (x : Bool). cond x (b ∷ front c (w ++ r)) []) (h .0) ∙ ap (λ (x : List ℕ). b ∷ x) (y .0),
+      ap (λ (x : Bool). cond x (past c (w ++ r)) (b ∷ (w ++ r))) (h .0) ∙ y .1,
+    )
 
 -- What a skip has passed, and what is left.
 pub front-passed : (c : ℕ → Bool) (t : List ℕ) (p q : ℕ) → Passed c t p q → front c (drop p t) ≡ slice t p q

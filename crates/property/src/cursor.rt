@@ -38,7 +38,7 @@ const BLANK: Slot = Slot {
 
 impl Partial {
     // A label that begins, of a kind, at a place.
-    pub fn opened(kind: Kind, place: usize) -> Partial
+    pub(crate) fn opened(kind: Kind, place: usize) -> Partial
         ensures { λ r. ⌜ r ≡ opened kind place ⌝ }
     {
         Partial {
@@ -53,14 +53,14 @@ impl Partial {
     }
 
     // Whether the label writes a register.
-    pub fn writes(self, register: usize) -> bool
+    pub(crate) fn writes(self, register: usize) -> bool
         ensures { λ r. ⌜ r ≡ wrote (self .written) register ⌝ }
     {
         register < 8 && self.written[register]
     }
 
     // The label, where it writes a register.
-    pub fn writing(mut self, register: usize) -> Partial
+    pub(crate) fn writing(mut self, register: usize) -> Partial
         ensures { λ r. ⌜ r ≡ writing register self ⌝ }
     {
         if register < 8 {
@@ -72,7 +72,7 @@ impl Partial {
 
 impl Statement {
     // A statement that begins, from a state.
-    pub fn sourced(source: usize) -> Statement
+    pub(crate) fn sourced(source: usize) -> Statement
         ensures { λ r. ⌜ r ≡ sourced source ⌝ }
     {
         Statement {
@@ -86,7 +86,7 @@ impl Statement {
 
 impl Cursor {
     // Before the text.
-    pub fn origin() -> Cursor
+    pub(crate) fn origin() -> Cursor
         ensures { λ r. ⌜ r ≡ origin ⌝ }
     {
         Cursor {
@@ -101,7 +101,7 @@ impl Cursor {
     }
 
     // The next pattern of the label is read.
-    pub fn filled(mut self, slot: Slot) -> Cursor
+    pub(crate) fn filled(mut self, slot: Slot) -> Cursor
         ensures { λ r. ⌜ r ≡ filled slot self ⌝ }
     {
         if self.count == 0 {
@@ -120,7 +120,7 @@ impl Cursor {
     }
 
     // How many of `start` and `error` have been written.
-    pub fn fixed(self) -> usize
+    pub(crate) fn fixed(self) -> usize
         ensures { λ r. ⌜ r ≡ one-if (self .starts) + one-if (self .errs) ⌝ }
     {
         match (self.starts, self.errs) {
@@ -131,7 +131,7 @@ impl Cursor {
     }
 
     // One more event of the statement is read.
-    pub fn met(mut self, event: Event) -> Cursor
+    pub(crate) fn met(mut self, event: Event) -> Cursor
         ensures { λ r. ⌜ r ≡ met event self ⌝ }
     {
         if self.statement.span < 4 {
@@ -142,7 +142,7 @@ impl Cursor {
     }
 
     // The label ends: its events are met.
-    pub fn finished(mut self) -> Cursor
+    pub(crate) fn finished(mut self) -> Cursor
         ensures { λ r. ⌜ r ≡ finished self ⌝ }
     {
         let slots = self.label.slots;

@@ -34,7 +34,7 @@ fn name_flaw(w: &[u8]) -> Option<TextReason>
 
 impl Draft {
     // Whether a state is neither `start` nor `error` and was not written yet.
-    pub fn fresh_other(&self, text: &[u8], w: &[u8]) -> bool
+    pub(crate) fn fresh_other(&self, text: &[u8], w: &[u8]) -> bool
         ensures { λ r. ⌜ r ≡ state.fresh-other (sofar (now (text .entry)) (now (self .entry)) .others) (now (w .entry)) ⌝ }
     {
         !same(w, b"start") && !same(w, b"error") && absent(text, self.others.as_slice(), w)
@@ -58,14 +58,14 @@ impl Draft {
     }
 
     // Whether a line declares a method.
-    pub fn declares(&self, text: &[u8], w: &[u8]) -> bool
+    pub(crate) fn declares(&self, text: &[u8], w: &[u8]) -> bool
         ensures { λ r. ⌜ r ≡ state.declares (view (now (text .entry)) (now (self .entry))) (now (w .entry)) ⌝ }
     {
         same(w, b"method") && self.statements.as_slice().len() == 0
     }
 
     // Whether a method of the name is declared.
-    pub fn knows(&self, text: &[u8], w: &[u8]) -> bool
+    pub(crate) fn knows(&self, text: &[u8], w: &[u8]) -> bool
         ensures { λ r. ⌜ r ≡ lib.Dec.ltb (state.method-place (sofar (now (text .entry)) (now (self .entry))) (now (w .entry))) (length (sofar (now (text .entry)) (now (self .entry)) .methods)) ⌝ }
     {
         known(text, self.methods.as_slice(), w)
@@ -217,13 +217,22 @@ impl Draft {
     fn twice(&self, text: &[u8], w: &[u8]) -> bool
         ensures { λ r. ⌜ r ≡ wrote (now (self .entry) .cursor .label .written) (state.register-of (sofar (now (text .entry)) (now (self .entry))) (state.variable-key (now (w .entry)))) ⌝ }
     {
-        self.cursor.label.writes(find_register(text, self.registers.as_slice(), false, w))
+        self.cursor
+            .label
+            .writes(find_register(text, self.registers.as_slice(), false, w))
     }
 }
 
 impl Draft {
     // The fault of a pattern; `late` says that its label goes past the fourth event, and `at` is where the piece ends that it begins with.
-    fn pattern_flaw(&self, late: bool, text: &[u8], w: &[u8], byte: u8, at: usize) -> Option<TextReason>
+    fn pattern_flaw(
+        &self,
+        late: bool,
+        text: &[u8],
+        w: &[u8],
+        byte: u8,
+        at: usize,
+    ) -> Option<TextReason>
         requires { ⌜ at ≤ length (now text) ⌝ }
         ensures { λ r. ⌜ told r ≡ worst (pattern-flaws late (view (now (text .entry)) (now (self .entry))) (now (w .entry)) byte (drop at (now (text .entry)))) ⌝ }
     {
@@ -267,7 +276,14 @@ impl Draft {
     }
 
     // The fault of a pattern that begins a label: nothing is written by then.
-    fn begun_flaw(&self, late: bool, text: &[u8], w: &[u8], byte: u8, at: usize) -> Option<TextReason>
+    fn begun_flaw(
+        &self,
+        late: bool,
+        text: &[u8],
+        w: &[u8],
+        byte: u8,
+        at: usize,
+    ) -> Option<TextReason>
         requires { ⌜ at ≤ length (now text) ⌝ }
         ensures { λ r. ⌜ told r ≡ worst (begun-flaws late (view (now (text .entry)) (now (self .entry))) (now (w .entry)) byte (drop at (now (text .entry)))) ⌝ }
     {
@@ -310,7 +326,14 @@ impl Draft {
     }
 
     // The fault of a piece of a label, which ends at a place.
-    fn label_flaw(&self, label: Label, text: &[u8], w: &[u8], byte: u8, at: usize) -> Option<TextReason>
+    fn label_flaw(
+        &self,
+        label: Label,
+        text: &[u8],
+        w: &[u8],
+        byte: u8,
+        at: usize,
+    ) -> Option<TextReason>
         requires { ⌜ at ≤ length (now text) ⌝ }
         ensures { λ r. ⌜ told r ≡ worst (label-flaws label (view (now (text .entry)) (now (self .entry))) (now (w .entry)) byte (drop at (now (text .entry)))) ⌝ }
     {
@@ -328,7 +351,14 @@ impl Draft {
     }
 
     // The fault of a piece of a pattern, which ends at a place.
-    fn inner_flaw(&self, inner: Inner, text: &[u8], w: &[u8], byte: u8, at: usize) -> Option<TextReason>
+    fn inner_flaw(
+        &self,
+        inner: Inner,
+        text: &[u8],
+        w: &[u8],
+        byte: u8,
+        at: usize,
+    ) -> Option<TextReason>
         requires { ⌜ at ≤ length (now text) ⌝ }
         ensures { λ r. ⌜ told r ≡ worst (inner-flaws inner (view (now (text .entry)) (now (self .entry))) (now (w .entry)) byte (drop at (now (text .entry)))) ⌝ }
     {
@@ -346,7 +376,7 @@ impl Draft {
     }
 
     // The fault of a piece, which ends at a place; the first by number.
-    pub fn flaw(&self, text: &[u8], w: &[u8], byte: u8, at: usize) -> Option<TextReason>
+    pub(crate) fn flaw(&self, text: &[u8], w: &[u8], byte: u8, at: usize) -> Option<TextReason>
         requires { ⌜ at ≤ length (now text) ⌝ }
         ensures { λ r. ⌜ told r ≡ worst (flaws (view (now (text .entry)) (now (self .entry))) (now (w .entry)) byte (drop at (now (text .entry)))) ⌝ }
     {

@@ -59,7 +59,7 @@ pub enum Class {
 
 impl Class {
     // Whether a byte belongs to the class.
-    pub fn has(self, b: u8) -> bool
+    pub(crate) fn has(self, b: u8) -> bool
         ensures { λ r. ⌜ r ≡ in-class self b ⌝ }
     {
         match (self, classify(b as char)) {

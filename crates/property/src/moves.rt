@@ -77,7 +77,12 @@ impl Draft {
     fn add_register(&mut self, text: &[u8], constant: bool, name: Name) -> Result<(), Short>
         ensures { λ r. ⌜ made r (λ _. view (now (text .entry)) (now (self .exit)) ≡ hold (state.key constant (spelling (now (text .entry)) name)) (view (now (text .entry)) (now (self .entry)))) ⌝ }
     {
-        if unheld(text, self.registers.as_slice(), constant, spelled(text, name)) {
+        if unheld(
+            text,
+            self.registers.as_slice(),
+            constant,
+            spelled(text, name),
+        ) {
             self.registers.push(Register { constant, name })?;
         }
         Ok(())
@@ -97,7 +102,7 @@ impl Draft {
     }
 
     // The statement that was being read ends.
-    pub fn add_statement(&mut self, text: &[u8]) -> Result<(), Short>
+    pub(crate) fn add_statement(&mut self, text: &[u8]) -> Result<(), Short>
         ensures { λ r. ⌜ made r (λ _. view (now (text .entry)) (now (self .exit)) ≡ state.ends-statement (view (now (text .entry)) (now (self .entry)))) ⌝ }
     {
         let statement = self.cursor.statement;
@@ -384,7 +389,8 @@ impl Draft {
     fn whole(&mut self, text: &[u8], name: Name, byte: u8) -> Result<(), Short>
         ensures { λ r. ⌜ made r (λ _. view (now (text .entry)) (now (self .exit)) ≡ state.whole-begins (spelling (now (text .entry)) name) byte (name .from) (view (now (text .entry)) (now (self .entry)))) ⌝ }
     {
-        self.cursor = self.cursor.labelled(Kind::Both, name.from, 0, self.cursor.spot);
+        self.cursor = self.cursor
+            .labelled(Kind::Both, name.from, 0, self.cursor.spot);
         self.pattern(text, name, byte)
     }
 
@@ -398,11 +404,13 @@ impl Draft {
             return Ok(());
         }
         if same(w, b"call") {
-            self.cursor = self.cursor.labelled(Kind::Call, name.from, 1, Spot::Label(Label::Callee));
+            self.cursor = self.cursor
+                .labelled(Kind::Call, name.from, 1, Spot::Label(Label::Callee));
             return Ok(());
         }
         if same(w, b"ret") {
-            self.cursor = self.cursor.labelled(Kind::Return, name.from, 0, Spot::Inner(Inner::Returned));
+            self.cursor = self.cursor
+                .labelled(Kind::Return, name.from, 0, Spot::Inner(Inner::Returned));
             return Ok(());
         }
         self.whole(text, name, byte)
@@ -413,7 +421,8 @@ impl Draft {
         ensures { λ r. ⌜ made r (λ _. view (now (text .entry)) (now (self .exit)) ≡ state.label-moved Label.Star (view (now (text .entry)) (now (self .entry))) (spelling (now (text .entry)) name) byte (name .from)) ⌝ }
     {
         if byte == b':' {
-            self.cursor = self.cursor.labelled(Kind::Both, name.from, 1, Spot::Label(Label::Equals));
+            self.cursor = self.cursor
+                .labelled(Kind::Both, name.from, 1, Spot::Label(Label::Equals));
             return Ok(());
         }
         self.cursor = self.cursor.met(Event::Any);
@@ -496,7 +505,7 @@ impl Draft {
     }
 
     // A piece is read, which begins with a byte.
-    pub fn advance(&mut self, text: &[u8], name: Name, byte: u8) -> Result<(), Short>
+    pub(crate) fn advance(&mut self, text: &[u8], name: Name, byte: u8) -> Result<(), Short>
         ensures { λ r. ⌜ made r (λ _. view (now (text .entry)) (now (self .exit)) ≡ state.moved (view (now (text .entry)) (now (self .entry))) (spelling (now (text .entry)) name) byte (name .from)) ⌝ }
     {
         match self.cursor.spot {
@@ -512,7 +521,7 @@ impl Draft {
     }
 
     // The text ends: so does a statement that was being read.
-    pub fn close(&mut self, text: &[u8]) -> Result<(), Short>
+    pub(crate) fn close(&mut self, text: &[u8]) -> Result<(), Short>
         ensures { λ r. ⌜ made r (λ _. sofar (now (text .entry)) (now (self .exit)) ≡ state.closing (view (now (text .entry)) (now (self .entry)))) ⌝ }
     {
         match self.cursor.spot {

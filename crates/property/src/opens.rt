@@ -30,7 +30,7 @@ fn begins_name(b: u8) -> bool
 
 impl Head {
     // Whether the byte may come, with so many letters of the keyword read.
-    pub fn opens(self, count: usize, b: u8) -> bool
+    pub(crate) fn opens(self, count: usize, b: u8) -> bool
         ensures { λ r. ⌜ r ≡ head-opens self count b ⌝ }
     {
         match self {
@@ -44,7 +44,7 @@ impl Head {
 
 impl Line {
     // Whether the byte may come.
-    pub fn opens(self, b: u8) -> bool
+    pub(crate) fn opens(self, b: u8) -> bool
         ensures { λ r. ⌜ r ≡ line-opens self b ⌝ }
     {
         match (self, classify(b as char)) {
@@ -56,7 +56,7 @@ impl Line {
     }
 
     // Whether the text may end, where spaces may be left or none.
-    pub fn ends(self, spaces: &[u8]) -> bool
+    pub(crate) fn ends(self, spaces: &[u8]) -> bool
         ensures { λ r. ⌜ r ≡ line-ends self (now (spaces .entry)) ⌝ }
     {
         match self {
@@ -69,7 +69,7 @@ impl Line {
 
 impl Route {
     // Whether the byte may come.
-    pub fn opens(self, b: u8) -> bool
+    pub(crate) fn opens(self, b: u8) -> bool
         ensures { λ r. ⌜ r ≡ route-opens self b ⌝ }
     {
         match (self, classify(b as char)) {
@@ -84,7 +84,7 @@ impl Route {
 
 impl Label {
     // Whether the byte may come.
-    pub fn opens(self, b: u8) -> bool
+    pub(crate) fn opens(self, b: u8) -> bool
         ensures { λ r. ⌜ r ≡ label-opens self b ⌝ }
     {
         match (self, classify(b as char)) {
@@ -101,7 +101,7 @@ impl Label {
     }
 
     // Whether the text may end.
-    pub fn ends(self) -> bool
+    pub(crate) fn ends(self) -> bool
         ensures { λ r. ⌜ r ≡ label-ends self ⌝ }
     {
         match self {
@@ -113,7 +113,7 @@ impl Label {
 
 impl Inner {
     // Whether the byte may come.
-    pub fn opens(self, b: u8) -> bool
+    pub(crate) fn opens(self, b: u8) -> bool
         ensures { λ r. ⌜ r ≡ inner-opens self b ⌝ }
     {
         match (self, classify(b as char)) {
@@ -130,7 +130,7 @@ impl Inner {
 
 impl Spot {
     // Whether the byte may come, with so many letters of the keyword read.
-    pub fn opens(self, count: usize, b: u8) -> bool
+    pub(crate) fn opens(self, count: usize, b: u8) -> bool
         ensures { λ r. ⌜ r ≡ opens-at self count b ⌝ }
     {
         match self {
@@ -143,7 +143,7 @@ impl Spot {
     }
 
     // Whether no spaces are free here.
-    pub fn tight(self) -> bool
+    pub(crate) fn tight(self) -> bool
         ensures { λ r. ⌜ r ≡ tight-at self ⌝ }
     {
         match self {
@@ -155,7 +155,7 @@ impl Spot {
     }
 
     // Whether the text may end, where spaces may be left or none.
-    pub fn ends(self, spaces: &[u8]) -> bool
+    pub(crate) fn ends(self, spaces: &[u8]) -> bool
         ensures { λ r. ⌜ r ≡ ends-at self (now (spaces .entry)) ⌝ }
     {
         match self {

@@ -85,7 +85,7 @@ impl Reader<'_> {
     }
 
     // What comes next for a draft of the text: a piece that may stand there, or the end.
-    pub fn next(&self, draft: &Draft) -> Result<Option<Found>, Flaw>
+    pub(crate) fn next(&self, draft: &Draft) -> Result<Option<Found>, Flaw>
         requires { ⌜ now self .place ≤ length (now (now self .text)) ⌝ }
         ensures { λ r. ⌜ Cases r
             (λ o. Comes-next (view (now (now (self .entry) .text)) (now (draft .entry))) (now (now (self .entry) .text)) (now (self .entry) .place) o)

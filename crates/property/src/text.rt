@@ -47,7 +47,7 @@ impl From<Short> for Failure as ShortFailure {
 
 impl Draft {
     // Before the text.
-    pub fn new(heap: Global) -> Draft
+    pub(crate) fn new(heap: Global) -> Draft
         ensures { λ r. ⌜ ((t : List ℕ) → view t r ≡ nothing-read) ⌝ }
     {
         let nowhere = Name { from: 0, to: 0 };

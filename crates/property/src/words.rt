@@ -16,7 +16,7 @@ use crate::marks::*;
 use crate::table::*;
 
 // The bytes of a name, none where its places lie outside of the text.
-pub fn spelled<'a>(text: &'a [u8], name: Name) -> &'a [u8]
+pub(crate) fn spelled<'a>(text: &'a [u8], name: Name) -> &'a [u8]
     ensures { λ r. ⌜ now r ≡ spelling (now (text .entry)) name ⌝ }
 {
     let (from, to) = (name.from, name.to);
@@ -28,14 +28,14 @@ pub fn spelled<'a>(text: &'a [u8], name: Name) -> &'a [u8]
 }
 
 // Whether two words are spelled alike.
-pub fn same(a: &[u8], b: &[u8]) -> bool
+pub(crate) fn same(a: &[u8], b: &[u8]) -> bool
     ensures { λ r. ⌜ r ≡ word.same (now (a .entry)) (now (b .entry)) ⌝ }
 {
     a == b
 }
 
 // Whether a word is reserved.
-pub fn reserved(w: &[u8]) -> bool
+pub(crate) fn reserved(w: &[u8]) -> bool
     ensures { λ r. ⌜ r ≡ word.reserved (now (w .entry)) ⌝ }
 {
     same(w, b"property") || same(w, b"method") || same(w, b"call") || same(w, b"ret")
@@ -52,7 +52,7 @@ fn lower(b: u8) -> u8
 }
 
 // Whether two words are one variable: the case of the first letter does not count.
-pub fn same_variable(a: &[u8], b: &[u8]) -> bool
+pub(crate) fn same_variable(a: &[u8], b: &[u8]) -> bool
     ensures { λ r. ⌜ r ≡ word.same (word.lowered (now (a .entry))) (word.lowered (now (b .entry))) ⌝ }
 {
     if a.len() == 0 || b.len() == 0 {
@@ -62,7 +62,7 @@ pub fn same_variable(a: &[u8], b: &[u8]) -> bool
 }
 
 // Whether two words, each a constant or a variable, have one register.
-pub fn alike(constant: bool, a: &[u8], other: bool, b: &[u8]) -> bool
+pub(crate) fn alike(constant: bool, a: &[u8], other: bool, b: &[u8]) -> bool
     ensures { λ r. ⌜ r ≡ same-key (key constant (now (a .entry))) (key other (now (b .entry))) ⌝ }
 {
     match (constant, other) {
@@ -73,7 +73,7 @@ pub fn alike(constant: bool, a: &[u8], other: bool, b: &[u8]) -> bool
 }
 
 // The place of a name in a list, or the length where it is not there.
-pub fn find_name(text: &[u8], names: &[Name], w: &[u8]) -> usize
+pub(crate) fn find_name(text: &[u8], names: &[Name], w: &[u8]) -> usize
     ensures { λ r. ⌜ r ≡ word.find (word.same (now (w .entry))) (map (spelling (now (text .entry))) (now (names .entry))) ⌝ }
 {
     for (i, n) in names.iter().enumerate() {
@@ -85,7 +85,7 @@ pub fn find_name(text: &[u8], names: &[Name], w: &[u8]) -> usize
 }
 
 // The place of the method of a name, or how many there are.
-pub fn find_method(text: &[u8], methods: &[Method], w: &[u8]) -> usize
+pub(crate) fn find_method(text: &[u8], methods: &[Method], w: &[u8]) -> usize
     ensures { λ r. ⌜ r ≡ word.find (λ m. word.same (now (w .entry)) (m .name)) (map (declared (now (text .entry))) (now (methods .entry))) ⌝ }
 {
     for (i, m) in methods.iter().enumerate() {
@@ -98,7 +98,7 @@ pub fn find_method(text: &[u8], methods: &[Method], w: &[u8]) -> usize
 
 impl Register {
     // Whether this is the register of a constant or a variable.
-    pub fn holds(self, text: &[u8], constant: bool, w: &[u8]) -> bool
+    pub(crate) fn holds(self, text: &[u8], constant: bool, w: &[u8]) -> bool
         ensures { λ r. ⌜ r ≡ same-key (key constant (now (w .entry))) (key-of (now (text .entry)) self) ⌝ }
     {
         alike(constant, w, self.constant, spelled(text, self.name))
@@ -106,7 +106,7 @@ impl Register {
 }
 
 // The register of a constant or a variable, or how many there are.
-pub fn find_register(text: &[u8], registers: &[Register], constant: bool, w: &[u8]) -> usize
+pub(crate) fn find_register(text: &[u8], registers: &[Register], constant: bool, w: &[u8]) -> usize
     ensures { λ r. ⌜ r ≡ word.find (same-key (key constant (now (w .entry)))) (map (key-of (now (text .entry))) (now (registers .entry))) ⌝ }
 {
     for (i, g) in registers.iter().enumerate() {
@@ -118,49 +118,49 @@ pub fn find_register(text: &[u8], registers: &[Register], constant: bool, w: &[u
 }
 
 // Whether a name is not in a list.
-pub fn absent(text: &[u8], names: &[Name], w: &[u8]) -> bool
+pub(crate) fn absent(text: &[u8], names: &[Name], w: &[u8]) -> bool
     ensures { λ r. ⌜ r ≡ eqb (word.find (word.same (now (w .entry))) (map (spelling (now (text .entry))) (now (names .entry)))) (length (map (spelling (now (text .entry))) (now (names .entry)))) ⌝ }
 {
     find_name(text, names, w) == names.len()
 }
 
 // Whether a method of the name is declared.
-pub fn known(text: &[u8], methods: &[Method], w: &[u8]) -> bool
+pub(crate) fn known(text: &[u8], methods: &[Method], w: &[u8]) -> bool
     ensures { λ r. ⌜ r ≡ ltb (word.find (λ m. word.same (now (w .entry)) (m .name)) (map (declared (now (text .entry))) (now (methods .entry)))) (length (map (declared (now (text .entry))) (now (methods .entry)))) ⌝ }
 {
     find_method(text, methods, w) < methods.len()
 }
 
 // Whether a constant or a variable has no register yet.
-pub fn unheld(text: &[u8], registers: &[Register], constant: bool, w: &[u8]) -> bool
+pub(crate) fn unheld(text: &[u8], registers: &[Register], constant: bool, w: &[u8]) -> bool
     ensures { λ r. ⌜ r ≡ eqb (word.find (same-key (key constant (now (w .entry)))) (map (key-of (now (text .entry))) (now (registers .entry)))) (length (map (key-of (now (text .entry))) (now (registers .entry)))) ⌝ }
 {
     find_register(text, registers, constant, w) == registers.len()
 }
 
 // Whether a constant or a variable needs a ninth register.
-pub fn ninth(text: &[u8], registers: &[Register], constant: bool, w: &[u8]) -> bool
+pub(crate) fn ninth(text: &[u8], registers: &[Register], constant: bool, w: &[u8]) -> bool
     ensures { λ r. ⌜ r ≡ ninth-in (map (key-of (now (text .entry))) (now (registers .entry))) (key constant (now (w .entry))) ⌝ }
 {
     registers.len() >= 8 && unheld(text, registers, constant, w)
 }
 
 // Whether sixteen states have been written, besides so many of `start` and `error`.
-pub fn sixteen(text: &[u8], names: &[Name], fixed: usize) -> bool
+pub(crate) fn sixteen(text: &[u8], names: &[Name], fixed: usize) -> bool
     ensures { λ r. ⌜ r ≡ leb 16 (length (map (spelling (now (text .entry))) (now (names .entry))) + fixed) ⌝ }
 {
     names.len() >= 16usize.saturating_sub(fixed)
 }
 
 // Whether thirty-two methods have been declared.
-pub fn thirty_two(text: &[u8], methods: &[Method]) -> bool
+pub(crate) fn thirty_two(text: &[u8], methods: &[Method]) -> bool
     ensures { λ r. ⌜ r ≡ leb 32 (length (map (declared (now (text .entry))) (now (methods .entry)))) ⌝ }
 {
     methods.len() >= 32
 }
 
 // Whether a method has the number.
-pub fn numbered(text: &[u8], methods: &[Method], number: u32) -> bool
+pub(crate) fn numbered(text: &[u8], methods: &[Method], number: u32) -> bool
     ensures { λ r. ⌜ r ≡ word.some (λ m. eqb number (m .number)) (map (declared (now (text .entry))) (now (methods .entry))) ⌝ }
 {
     for m in methods {
@@ -172,7 +172,7 @@ pub fn numbered(text: &[u8], methods: &[Method], number: u32) -> bool
 }
 
 // Where the bytes of the class end that stand at a place.
-pub fn skip(text: &[u8], class: Class, at: usize) -> usize
+pub(crate) fn skip(text: &[u8], class: Class, at: usize) -> usize
     requires { ⌜ at ≤ length (now text) ⌝ }
     ensures { λ r. ⌜ Passed (in-class class) (now (text .entry)) at r ⌝ }
 {
@@ -184,7 +184,7 @@ pub fn skip(text: &[u8], class: Class, at: usize) -> usize
 }
 
 // The number that digits write, or one over 65,535 where that is.
-pub fn decimal(digits: &[u8]) -> u32
+pub(crate) fn decimal(digits: &[u8]) -> u32
     ensures small { λ r. ⌜ (value (now (digits .entry)) ≤ 65535 → r ≡ value (now (digits .entry))) ⌝ }
     ensures large { λ r. ⌜ (65535 < value (now (digits .entry)) → 65535 < r) ⌝ }
 {
@@ -198,7 +198,7 @@ pub fn decimal(digits: &[u8]) -> u32
 }
 
 // Whether a colon comes after the spaces at a place.
-pub fn colon_next(text: &[u8], at: usize) -> bool
+pub(crate) fn colon_next(text: &[u8], at: usize) -> bool
     requires { ⌜ at ≤ length (now text) ⌝ }
     ensures { λ r. ⌜ r ≡ eqb (word.first-byte (word.past space (drop at (now (text .entry))))) 58 ⌝ }
 {
@@ -207,7 +207,7 @@ pub fn colon_next(text: &[u8], at: usize) -> bool
 }
 
 // The word that comes after the spaces at a place.
-pub fn next_word<'a>(text: &'a [u8], at: usize) -> &'a [u8]
+pub(crate) fn next_word<'a>(text: &'a [u8], at: usize) -> &'a [u8]
     requires { ⌜ at ≤ length (now text) ⌝ }
     ensures { λ r. ⌜ now r ≡ word.front wordy (word.past space (drop at (now (text .entry)))) ⌝ }
 {
@@ -217,7 +217,7 @@ pub fn next_word<'a>(text: &'a [u8], at: usize) -> &'a [u8]
 }
 
 // The number that digits write, where all over 65,535 stand as one.
-pub fn capped(digits: &[u8]) -> u32
+pub(crate) fn capped(digits: &[u8]) -> u32
     ensures { λ r. ⌜ r ≡ most (now (digits .entry)) ⌝ }
 {
     let v = decimal(digits);
@@ -225,7 +225,7 @@ pub fn capped(digits: &[u8]) -> u32
 }
 
 // Whether a byte is a letter.
-pub fn is_letter(b: u8) -> bool
+pub(crate) fn is_letter(b: u8) -> bool
     ensures { λ r. ⌜ r ≡ letter b ⌝ }
 {
     match classify(b as char) {

@@ -43,9 +43,11 @@ loop-draft-again c =
     let e : t ≡ u = ap (λ (r : RefT (List ℕ)). now r) (c .loop-draft .inv .0) in
     let r : Read (view t d) t a x = subst (Comes-next (view t d) t a) (c .in-Some .is) (c .in-Continue-found .ensures tt) in
     let last = c .advance .last .self in
-    let g = subst (λ (z : List ℕ). view z last ≡ moved (view z d) (spelled z (x .name)) (x .byte) (x .name .from)) (sym e) (c .in-Continue-advance .ensures tt) in
-    (c .loop-draft .inv .0, r .high,
-    subst (λ (q : State). Carries any-text (form text q (x .name .to)) t (x .name .to)) (sym g) (carries-on t (view t d) a x (c .loop-draft .inv .2) r))
+    let g = subst (λ (z : List ℕ). view z last ≡ moved (view z d) (spelled z (x .name)) (x .byte) (x .name .from)) (sym e) (c .in-Continue-advance .ensures tt) in (
+      c .loop-draft .inv .0,
+      r .high,
+      subst (λ (q : State). Carries any-text (form text q (x .name .to)) t (x .name .to)) (sym g) (carries-on t (view t d) a x (c .loop-draft .inv .2) r),
+    )
 
 routed-by : (P Q : Property) (ss : List Statement) (b r : Bool) → P ≡ Q → ss ≡ P .statements → b ≡ routed ss → b ≡ r → routed (Q .statements) ≡ r
 routed-by P Q ss b r e f g h = sym (ap (λ (R : Property). routed (R .statements)) e) ∙ (sym (ap routed f) ∙ (sym g ∙ h))
