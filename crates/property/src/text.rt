@@ -47,7 +47,7 @@ impl From<Short> for Failure as ShortFailure {
 
 impl Draft {
     // Before the text.
-    pub(crate) fn new(heap: Global) -> Draft
+    pub fn new(heap: Global) -> Draft
         ensures { λ r. ⌜ ((t : List ℕ) → view t r ≡ nothing-read) ⌝ }
     {
         let nowhere = Name { from: 0, to: 0 };
@@ -130,8 +130,8 @@ impl Flaw {
     }
 }
 
-// The draft of a text of at most 8,192 bytes, or why there is none. Unwritten reads are not sought here.
-pub fn read_draft(heap: Global, text: &[u8]) -> Result<Draft, Failure>
+// The draft of a text of at most 8,192 bytes, or why there is none.
+fn read_draft(heap: Global, text: &[u8]) -> Result<Draft, Failure>
     ensures { λ r. ⌜ Cases r (λ d. Accepted property-text (now (text .entry)) (sofar (now (text .entry)) d)) (λ e. Explains-bounded (now (text .entry)) e) ⌝ }
 {
     let fault = Flaw {
@@ -154,5 +154,19 @@ pub fn read_draft(heap: Global, text: &[u8]) -> Result<Draft, Failure>
             }
             Failure::Memory => Err(Failure::Memory),
         },
+    }
+}
+
+// Reads a text of at most 8,192 bytes into a draft, which stays as it was where there is a fault or memory is short. Unwritten reads are not sought here.
+pub fn read(heap: Global, text: &[u8], draft: &mut Draft) -> Result<(), Failure>
+    ensures { λ r. ⌜ Cases r (λ _. Accepted property-text (now (text .entry)) (sofar (now (text .entry)) (now (draft .exit))))
+        (λ e. Explains-bounded (now (text .entry)) e × (now (draft .exit) ≡ now (draft .entry))) ⌝ }
+{
+    match read_draft(heap, text) {
+        Ok(d) => {
+            *draft = d;
+            Ok(())
+        }
+        Err(e) => Err(e),
     }
 }
