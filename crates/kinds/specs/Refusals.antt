@@ -6,7 +6,9 @@ use Rattle.kinds.specs.declared.refusal.Layer.{Layer}
 use Rattle.kinds.specs.declared.refusal.Layer.the-variants.{Number, Value, Journal, Text, Watch, Mailbox}
 use Rattle.kinds.specs.declared.refusal.Reason.{Reason}
 use Rattle.kinds.specs.declared.refusal.Reason.the-variants.{Cut, Overlong, OtherHead, WildId, TooManyValues, BadLabel, TooLong, NoRoom}
-use Rattle.kinds.specs.declared.refusal.Reason.the-variants.{Watch as of-watch}
+use Rattle.kinds.specs.declared.refusal.Reason.the-variants.{Text as of-text, Watch as of-watch}
+use Rattle.kinds.specs.declared.text_reason.TextReason.{TextReason}
+use Rattle.kinds.specs.declared.text_reason.TextReason.the-variants as texts
 use Rattle.kinds.specs.declared.watch_reason.WatchReason.{WatchReason}
 use Rattle.kinds.specs.declared.watch_reason.WatchReason.the-variants.{NotBegun, BegunAlready, BadCap, OtherConstants, SmallBoard, OtherArity, IsBroken, IsSpilled, IsFull, IsKept, NotBroken, SmallPage}
 use Rattle.kinds.specs.declared.refusal.Fault.{Fault}
@@ -20,6 +22,17 @@ name-of Journal = codes "journal"
 name-of Text = codes "text"
 name-of Watch = codes "watch"
 name-of Mailbox = codes "mailbox"
+
+-- The number of each reason that only a text has.
+abbrev pub text-number : TextReason → ℕ
+text-number texts.NoForm = 10  -- a byte fits no form, or the text breaks off; a reserved word stands as a name
+text-number texts.TooMuch = 11  -- something is one too many, or too large
+text-number texts.BadMethod = 12  -- a method is not declared, or its name or number is declared twice
+text-number texts.OtherArity = 13  -- a label has another count of patterns than the method has parameters
+text-number texts.WrittenTwice = 14  -- a label writes one variable twice
+text-number texts.UnwrittenRead = 15  -- some path of statements reaches a read of a variable that it has not written
+text-number texts.LeavesError = 16  -- a statement leaves the state `error`
+text-number texts.NoRoute = 17  -- no written statement leaves `start`, or none leads to `error`
 
 -- The number of each reason that only a watch has.
 abbrev pub watch-number : WatchReason → ℕ
@@ -46,6 +59,7 @@ number-of TooManyValues = 5  -- a call has over 5 values, or a return over 1
 number-of BadLabel = 6  -- a label's length or one of its bytes is wrong
 number-of TooLong = 7  -- a journal has over 65,536 bytes
 number-of NoRoom = 50  -- a mailbox holds as many events as it has places
+number-of (of-text r) = text-number r  -- what only a text is refused for
 number-of (of-watch r) = watch-number r  -- what only a watch refuses
 
 -- A fault at a place.

@@ -7,4 +7,5 @@ pub mod number;
 pub mod numbers;
 pub mod phase;
 pub mod refusal;
+pub mod text_reason;
 pub mod watch_reason;

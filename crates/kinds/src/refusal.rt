@@ -1,4 +1,7 @@
 // Refusals: which layer found a fault, what it is, and where.
+use crate::text_reason::TextReason;
+use crate::text_reason::TextReasonDebug;
+use crate::text_reason::TextReasonPartialEq;
 use crate::watch_reason::WatchReason;
 use crate::watch_reason::WatchReasonDebug;
 use crate::watch_reason::WatchReasonPartialEq;
@@ -35,6 +38,8 @@ pub enum Reason {
     TooLong,
     // a mailbox holds as many events as it has places
     NoRoom,
+    // what only a text is refused for
+    Text(TextReason),
     // what only a watch refuses
     Watch(WatchReason),
 }
@@ -91,6 +96,7 @@ impl Reason {
             Reason::BadLabel => 6,
             Reason::TooLong => 7,
             Reason::NoRoom => 50,
+            Reason::Text(r) => r.number(),
             Reason::Watch(reason) => reason.number(),
         }
     }

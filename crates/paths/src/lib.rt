@@ -1,0 +1,119 @@
+// Which states paths of statements reach with no write of a register.
+ghost use mathlib.Core.Bool.{Bool, true, false};
+ghost use mathlib.Core.Path.{_≡_};
+ghost use Prim.Native.Nat.{ℕ, _<_, _≤_};
+ghost use Rattle.std.specs.Orderings.{Decides, When};
+ghost use Rattle.paths.specs.Paths.{Unwritten, Sound, Closed, unset, slot-writes, event-writes, statement-writes, fewer as least-of, state as state-of};
+ghost use Rattle.property.specs.Words.{some};
+ghost use lib.ListN.{length, getD};
+use property::table::*;
+
+// The smaller of two numbers.
+fn fewer(n: usize, m: usize) -> usize
+    ensures { λ r. ⌜ r ≡ least-of n m ⌝ }
+{
+    if n < m { n } else { m }
+}
+
+// The state of a number.
+fn state(n: usize) -> usize
+    ensures { λ r. ⌜ r ≡ state-of n ⌝ }
+{
+    fewer(n, 16)
+}
+
+// Whether a pattern writes a register.
+fn writes(slot: Slot, x: usize) -> bool
+    ensures { λ r. ⌜ r ≡ slot-writes x slot ⌝ }
+{
+    match slot.pattern {
+        Pattern::Write(r) => r == x,
+        _ => false,
+    }
+}
+
+// Whether one of some patterns writes a register.
+fn any_writes(slots: &[Slot], x: usize) -> bool
+    ensures { λ r. ⌜ r ≡ some (slot-writes x) (now (slots .entry)) ⌝ }
+{
+    for s in slots {
+        if writes(*s, x) {
+            return true;
+        }
+    }
+    false
+}
+
+// Whether an event writes a register.
+fn event_written(event: Event, x: usize) -> bool
+    ensures { λ r. ⌜ r ≡ event-writes x event ⌝ }
+{
+    match event {
+        Event::Any => false,
+        Event::Calls(c) => {
+            let n = fewer(c.arity, 5);
+            let slots = c.slots;
+            any_writes(&slots[0..n], x)
+        }
+        Event::Returns(a) => writes(a.slot, x),
+    }
+}
+
+// Whether one of some events writes a register.
+fn any_event(events: &[Event], x: usize) -> bool
+    ensures { λ r. ⌜ r ≡ some (event-writes x) (now (events .entry)) ⌝ }
+{
+    for e in events {
+        if event_written(*e, x) {
+            return true;
+        }
+    }
+    false
+}
+
+// Whether a statement writes a register.
+fn statement_written(statement: Statement, x: usize) -> bool
+    ensures { λ r. ⌜ r ≡ statement-writes x statement ⌝ }
+{
+    let n = fewer(statement.span, 4);
+    let events = statement.events;
+    any_event(&events[0..n], x)
+}
+
+// Whether a statement leads from a state that was seen to one that was not, with no write.
+fn adds(s: Statement, x: usize, seen: &[bool]) -> bool
+    requires { ⌜ length (now seen) ≡ 17 ⌝ }
+    ensures { λ r. ⌜ Decides r ((statement-writes x s ≡ false) × (getD (now (seen .entry)) (state-of (s .source)) false ≡ true)
+        × (getD (now (seen .entry)) (state-of (s .target)) false ≡ false)) ⌝ }
+{
+    let (from, to) = (state(s.source), state(s.target));
+    !statement_written(s, x) && seen[from] && !seen[to]
+}
+
+// Adds one state that a statement leads to; false where there is none.
+fn widen(statements: &[Statement], x: usize, seen: &mut [bool]) -> bool
+    requires long { ⌜ length (now seen) ≡ 17 ⌝ }
+    requires sound { ⌜ Sound (now statements) x (now seen) ⌝ }
+    ensures sound { λ _. ⌜ Sound (now (statements .entry)) x (now (seen .exit)) ⌝ }
+    ensures kept { λ _. ⌜ ((q : ℕ) → getD (now (seen .entry)) q false ≡ true → getD (now (seen .exit)) q false ≡ true) ⌝ }
+    ensures cases { λ r. ⌜ When r (unset (now (seen .exit)) < unset (now (seen .entry))) (Closed (now (statements .entry)) x (now (seen .exit))) ⌝ }
+{
+    for s in statements {
+        if adds(*s, x, seen) {
+            let to = state(s.target);
+            seen[to] = true;
+            return true;
+        }
+    }
+    false
+}
+
+// The states that a path of statements reaches with no write of a register.
+pub fn unwritten(statements: &[Statement], x: usize) -> [bool; 17]
+    ensures { λ r. ⌜ ((q : ℕ) → Decides (getD r q false) (Unwritten (now (statements .entry)) x q)) ⌝ }
+{
+    let mut seen = [false; 17];
+    seen[0] = true;
+    while widen(statements, x, &mut seen) {}
+    seen
+}

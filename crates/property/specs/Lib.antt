@@ -1,0 +1,10 @@
+pub mod Cursors
+pub mod Grammar
+pub mod Marks
+pub mod Moves
+pub mod Outcomes
+pub mod Reading
+pub mod Reads
+pub mod States
+pub mod Views
+pub mod Words
