@@ -3,11 +3,12 @@ use mathlib.Core.Path.{_≡_}
 use mathlib.Core.List.{List, [], _∷_, _++_}
 use mathlib.Core.Bool.{Bool, true, false, cond}
 use mathlib.Core.Logic.{_⊎_}
-use Prim.Native.Nat.{ℕ, _≤_}
+use Prim.Native.Nat.{ℕ, _≤_, _<_}
+use lib.ListN.{length, getD}
 use lib.Dec.{eqb, leb}
 use Rattle.std.specs.declared.option.Option.{Option}
 use Rattle.std.specs.declared.option.Option.the-variants.{Some, None}
-use Rattle.paths.specs.Paths.{slots-of, events-of, event-writes}
+use Rattle.paths.specs.Paths.{slots-of, events-of, event-writes, state, Unwritten}
 use Rattle.property.specs.declared.table.Event.{Event}
 use Rattle.property.specs.declared.table.Pattern.{Pattern}
 use Rattle.property.specs.declared.table.Pattern.the-variants as patterns
@@ -53,3 +54,20 @@ Among n (m ∷ ns) = (n ≡ m) ⊎ Among n ns
 abbrev pub Least : List ℕ → Option ℕ → Type 0
 Least ns None = ns ≡ []
 Least ns (Some n) = Among n ns × ((m : ℕ) → Among m ns → n ≤ m)
+
+-- The reads of x that count in statements whose source has its flag set.
+abbrev pub flagged : List Bool → ℕ → List Statement → List ℕ
+flagged f x [] = []
+flagged f x (s ∷ ss) = cond (getD f (state (s .source)) false) (exposed x (events-of s)) [] ++ flagged f x ss
+
+-- At place n the register x is read in a statement, before any write of it there, and some path reaches the statement with no write of x.
+pub record Open-read (ss : List Statement) (x n : ℕ) : Type 0 where
+  pub place : ℕ
+  pub within : place < length ss
+  pub reached : (d : Statement) → Unwritten ss x (state (getD ss place d .source))
+  pub read : (d : Statement) → Among n (exposed x (events-of (getD ss place d)))
+
+-- The answer is the least place of such a read, or that there is none.
+abbrev pub First-open : List Statement → ℕ → Option ℕ → Type 0
+First-open ss x None = (n : ℕ) → Open-read ss x n → ⊥
+First-open ss x (Some n) = Open-read ss x n × ((m : ℕ) → Open-read ss x m → n ≤ m)

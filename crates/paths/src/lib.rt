@@ -5,7 +5,8 @@ ghost use Prim.Native.Nat.{ℕ, _<_, _≤_};
 ghost use Rattle.std.specs.Orderings.{Decides, When};
 ghost use Rattle.paths.specs.Paths.{Unwritten, Sound, Closed, unset, slot-writes, event-writes, statement-writes, fewer as least-of, state as state-of};
 ghost use Rattle.paths.specs.Paths.{slots-of, events-of};
-ghost use Rattle.paths.specs.Reads.{slot-reads, reads-in, exposed, least, lesser as lesser-of, Least};
+ghost use Rattle.paths.specs.Reads.{slot-reads, reads-in, exposed, least, lesser as lesser-of, flagged, First-open};
+ghost use mathlib.Core.List.{[]};
 ghost use Rattle.std.specs.declared.option.Option.the-variants.{Some, None};
 ghost use mathlib.Core.Bool.{cond};
 ghost use Rattle.property.specs.Words.{some};
@@ -200,10 +201,42 @@ fn first_exposed(events: &[Event], x: usize) -> Option<usize>
 }
 
 // The least place at which a statement reads a register that no earlier event of it writes.
-pub fn first_read(statement: Statement, x: usize) -> Option<usize>
-    ensures { λ r. ⌜ Least (exposed x (events-of statement)) r ⌝ }
+fn first_of(statement: Statement, x: usize) -> Option<usize>
+    ensures { λ r. ⌜ r ≡ least (exposed x (events-of statement)) ⌝ }
 {
     let n = fewer(statement.span, 4);
     let events = statement.events;
     first_exposed(&events[0..n], x)
+}
+
+// The same, where the flag of the statement's source is set.
+fn first_if(statement: Statement, x: usize, seen: &[bool]) -> Option<usize>
+    requires { ⌜ length (now seen) ≡ 17 ⌝ }
+    ensures { λ r. ⌜ r ≡ least (cond (getD (now (seen .entry)) (state-of (statement .source)) false) (exposed x (events-of statement)) []) ⌝ }
+{
+    let from = state(statement.source);
+    if seen[from] {
+        return first_of(statement, x);
+    }
+    None
+}
+
+// The least of these places over statements.
+fn first_flagged(statements: &[Statement], x: usize, seen: &[bool]) -> Option<usize>
+    requires { ⌜ length (now seen) ≡ 17 ⌝ }
+    ensures { λ r. ⌜ r ≡ least (flagged (now (seen .entry)) x (now (statements .entry))) ⌝ }
+{
+    let mut best = None;
+    for s in statements {
+        best = lesser(best, first_if(*s, x, seen));
+    }
+    best
+}
+
+// The least place at which a register is read that some path of statements has not written by then.
+pub fn first_read(statements: &[Statement], x: usize) -> Option<usize>
+    ensures { λ r. ⌜ First-open (now (statements .entry)) x r ⌝ }
+{
+    let seen = unwritten(statements, x);
+    first_flagged(statements, x, &seen)
 }
