@@ -12,6 +12,7 @@ use Rattle.paths.specs.Paths.{slots-of, events-of, event-writes, state, Unwrit
 use Rattle.property.specs.declared.table.Event.{Event}
 use Rattle.property.specs.declared.table.Pattern.{Pattern}
 use Rattle.property.specs.declared.table.Pattern.the-variants as patterns
+use Rattle.property.specs.declared.table.Register.{Register}
 use Rattle.property.specs.declared.table.Slot.{Slot}
 use Rattle.property.specs.declared.table.Statement.{Statement}
 
@@ -71,3 +72,13 @@ pub record Open-read (ss : List Statement) (x n : ℕ) : Type 0 where
 abbrev pub First-open : List Statement → ℕ → Option ℕ → Type 0
 First-open ss x None = (n : ℕ) → Open-read ss x n → ⊥
 First-open ss x (Some n) = Open-read ss x n × ((m : ℕ) → Open-read ss x m → n ≤ m)
+
+-- A register that holds a variable.
+abbrev pub Variable : List Register → ℕ → Type 0
+Variable gs x = (x < length gs) × ((d : Register) → getD gs x d .constant ≡ false)
+
+-- Of the first i registers, the answer is the least place at which a variable is read unwritten, or that there is none.
+abbrev pub First-of : List Statement → List Register → ℕ → Option ℕ → Type 0
+First-of ss gs i None = (x n : ℕ) → x < i → Variable gs x → Open-read ss x n → ⊥
+First-of ss gs i (Some n) =
+    ((x : ℕ) × (x < i) × Variable gs x × Open-read ss x n) × ((x m : ℕ) → x < i → Variable gs x → Open-read ss x m → n ≤ m)

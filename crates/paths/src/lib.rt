@@ -5,7 +5,7 @@ ghost use Prim.Native.Nat.{ℕ, _<_, _≤_};
 ghost use Rattle.std.specs.Orderings.{Decides, When};
 ghost use Rattle.paths.specs.Paths.{Unwritten, Sound, Closed, unset, slot-writes, event-writes, statement-writes, fewer as least-of, state as state-of};
 ghost use Rattle.paths.specs.Paths.{slots-of, events-of};
-ghost use Rattle.paths.specs.Reads.{slot-reads, reads-in, exposed, least, lesser as lesser-of, flagged, First-open};
+ghost use Rattle.paths.specs.Reads.{slot-reads, reads-in, exposed, least, lesser as lesser-of, flagged, First-open, First-of};
 ghost use mathlib.Core.List.{[]};
 ghost use Rattle.std.specs.declared.option.Option.the-variants.{Some, None};
 ghost use mathlib.Core.Bool.{cond};
@@ -239,4 +239,17 @@ pub fn first_read(statements: &[Statement], x: usize) -> Option<usize>
 {
     let seen = unwritten(statements, x);
     first_flagged(statements, x, &seen)
+}
+
+// The least place at which a variable is read that some path of statements has not written by then.
+pub fn unwritten_read(statements: &[Statement], registers: &[Register]) -> Option<usize>
+    ensures { λ r. ⌜ First-of (now (statements .entry)) (now (registers .entry)) (length (now (registers .entry))) r ⌝ }
+{
+    let mut best = None;
+    for (x, g) in registers.iter().enumerate() {
+        if !g.constant {
+            best = lesser(best, first_read(statements, x));
+        }
+    }
+    best
 }
