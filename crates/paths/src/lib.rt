@@ -1,4 +1,4 @@
-// Which states paths of statements reach with no write of a register.
+// Paths of statements, the reads that one reaches unwritten, and the reading of a property text whole.
 ghost use mathlib.Core.Bool.{Bool, true, false};
 ghost use mathlib.Core.Path.{_≡_};
 ghost use Prim.Native.Nat.{ℕ, _<_, _≤_};
@@ -12,6 +12,8 @@ ghost use mathlib.Core.Bool.{cond};
 ghost use Rattle.property.specs.Words.{some};
 ghost use lib.ListN.{length, getD};
 use property::table::*;
+
+pub mod text;
 
 // The smaller of two numbers.
 fn fewer(n: usize, m: usize) -> usize
