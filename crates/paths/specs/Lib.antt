@@ -1,1 +1,3 @@
+pub mod Outcomes
 pub mod Paths
+pub mod Reads
