@@ -1,3 +1,6 @@
 pub mod Fits
 pub mod Attempts
 pub mod Sound
+pub mod Trails
+pub mod Searches
+pub mod Fronts
