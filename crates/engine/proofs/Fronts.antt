@@ -129,12 +129,6 @@ module _ {V : Type 0} (class : V → Class) where
   length-states F k e l m = length-take-le (count-at F k) (drop (64 * k) (F .states)) (let z = length-drop (64 * k) (F .states) in omega arith)
 
   module _ (cap slot state entry : ℕ) (g : Grid V) (G : Front) (registers : List V) (fs : List Entry) (used′ : ℕ) (five : slot < 5) (R : Room cap g) (l : count-at (g .front) slot < cap) (e : length registers ≡ 8) (A : Added (g .front) G slot state entry) where
-    F : Front
-    F = g .front
-
-    rows : List V
-    rows = g .rows
-
     abbrev pub news : List V
     news = paste (g .rows) (slot * (8 * cap) + 8 * count-at (g .front) slot) registers 8
 
@@ -195,7 +189,8 @@ module _ {V : Type 0} (class : V → Class) where
       entry = entry;
       entries-here = A .entries-here;
       count-here = A .count-here;
-      other = λ k l ne. (added-other k l ne, A .entries-other k ne);
+      other = added-other;
+      spares = λ k ne. (A .count-other k ne, A .entries-other k ne);
       enters = E;
       spilled = A .spilled;
       room = added-room (E .more) (E .known);
@@ -214,6 +209,24 @@ module _ {V : Type 0} (class : V → Class) where
       let a = R .0 in
       let b = R .3 slot in
       length-row (states-at (g .front) slot) (drop (slot * (8 * cap)) (g .rows)) ∙ length-states (g .front) slot (R .2) five (omega arith)
+
+  pub length-entries : (cap slot : ℕ) (g : Grid V) → slot < 5 → Room cap g → length (entries-at (g .front) slot) ≡ count-at (g .front) slot
+  length-entries cap slot g five R =
+      let a = R .0 in
+      let b = R .3 slot in
+      let d = R .4 in
+      length-take-le (count-at (g .front) slot) (drop (64 * slot) (g .front .entries)) (let z = length-drop (64 * slot) (g .front .entries) in omega arith)
+
+  -- entry i of a position, as it is read
+  pub entry-read : (cap slot i : ℕ) (g : Grid V) → slot < 5 → Room cap g → i < count-at (g .front) slot → getD (g .front .entries) (64 * slot + i) 0 ≡ getD (entries-at (g .front) slot) i 0
+  entry-read cap slot i g five R l = sym (getD-take (count-at (g .front) slot) (drop (64 * slot) (g .front .entries)) i 0 l ∙ getD-drop (64 * slot) (g .front .entries) i 0)
+
+  pub entry-known : (cap slot i : ℕ) (g : Grid V) → slot < 5 → Room cap g → i < count-at (g .front) slot → getD (g .front .entries) (64 * slot + i) 0 < g .used
+  entry-known cap slot i g five R l =
+      let n = length-entries cap slot g five R in
+      let e = entry-read cap slot i g five R l in
+      let b = R .5 slot i (omega arith) in
+      omega arith
 
   row-get : (ss : List ℕ) (vs : List V) (i : ℕ) (d : Configuration) → i < length ss → configuration class (getD ss i 0) (take 8 (drop (8 * i) vs)) ≡ getD (row class ss vs) i d
   row-get [] vs i d l = absurd (omega arith)

@@ -4,3 +4,5 @@ pub mod Sound
 pub mod Trails
 pub mod Searches
 pub mod Fronts
+pub mod Tables
+pub mod Fills

@@ -76,9 +76,13 @@ Room cap g =
     (cap ≤ 64) × (length (g .rows) ≡ 40 * cap) × (length (g .front .states) ≡ 320) × ((k : ℕ) → count-at (g .front) k ≤ cap) × (length (g .front .entries) ≡ 320)
     × ((k : ℕ) → Below (g .used) (entries-at (g .front) k))
 
--- what two grids hold at the other positions is the same
+-- the other positions have the same configurations
 abbrev pub Others : {V : Type 0} → (V → Class) → ℕ → ℕ → Grid V → Grid V → Type 0
-Others class cap slot g h = (k : ℕ) → k < 5 → (k ≡ slot → ⊥) → (row-at class cap h k ≡ row-at class cap g k) × (entries-at (h .front) k ≡ entries-at (g .front) k)
+Others class cap slot g h = (k : ℕ) → k < 5 → (k ≡ slot → ⊥) → row-at class cap h k ≡ row-at class cap g k
+
+-- and as many, with the same entries
+abbrev pub Spares : ℕ → Front → Front → Type 0
+Spares slot F G = (k : ℕ) → (k ≡ slot → ⊥) → (count-at G k ≡ count-at F k) × (entries-at G k ≡ entries-at F k)
 
 -- a configuration c was added to a position, and entered by a step from an entry
 pub record Comes {V : Type 0} (class : V → Class) (cap : ℕ) (g h : Grid V) (slot : ℕ) (from : Entry) (c : Configuration) : Type 0 where
@@ -88,6 +92,7 @@ pub record Comes {V : Type 0} (class : V → Class) (cap : ℕ) (g h : Grid V) (
   pub entries-here : entries-at (h .front) slot ≡ entries-at (g .front) slot ++ entry ∷ []
   pub count-here : count-at (h .front) slot ≡ count-at (g .front) slot + 1
   pub other : Others class cap slot g h
+  pub spares : Spares slot (g .front) (h .front)
   pub enters : Enters (g .book) (g .used) from (h .book) (h .used) entry
   pub spilled : h .front .spilled ≡ g .front .spilled
   pub room : Room cap h

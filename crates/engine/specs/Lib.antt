@@ -1,3 +1,4 @@
 pub mod Views
 pub mod Trails
 pub mod Fronts
+pub mod Fills

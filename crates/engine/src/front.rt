@@ -3,6 +3,7 @@ ghost use mathlib.Core.Path.{_≡_};
 ghost use Prim.Native.Nat.{ℕ, _+_, _*_, _<_, _≤_};
 ghost use lib.ListN.{length, getD};
 ghost use Rattle.engine.specs.Fronts.{Added, Bare, states-at};
+use crate::entry::Entry;
 
 // Sixty-four places for each of five positions, of which the first `counts` are in use; whether more configurations came than may be.
 #[derive(Clone, Copy)]
@@ -29,6 +30,21 @@ pub struct Way {
     pub distance: usize,
     pub slot: usize,
     pub cap: usize,
+}
+
+// A configuration's state, and its entry in the book.
+#[derive(Clone, Copy)]
+pub struct Mark {
+    pub state: u8,
+    pub entry: u16,
+}
+
+// What a position is once it is filled; where `error` is reached, by which step from which entry.
+#[derive(Clone, Copy)]
+pub enum Filling {
+    Broken(Entry),
+    Spilled,
+    Stands,
 }
 
 impl Front {

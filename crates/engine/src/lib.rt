@@ -2,6 +2,7 @@
 pub mod attempt;
 pub mod book;
 pub mod entry;
+pub mod fill;
 pub mod front;
 pub mod row;
 pub mod scene;
