@@ -168,22 +168,22 @@ entry-steps class cap slot i g h five R S l (ec, ee) kept =
 -- whatever the events are
 module _ {V : Type 0} (cap slot : ℕ) (g : Grid V) (R : Room cap g) where
   pub safe-none : Safe cap slot g g None
-  safe-none = record { room = R; more = omega arith; spares = λ k n. (refl, refl); known = λ x e. absurd (none-some x e) }
+  safe-none = record { room = R; more = omega arith; spares = λ k n. (refl, refl); long = refl; known = λ x e. absurd (none-some x e) }
     where
       none-some : (x : Entry) → _≡_ {A = Option Entry} None (Some x) → ⊥
       none-some x e = let z : _≡_ {A = ℕ} 0 1 = cc in omega arith
 
   pub safe-spill : Safe cap slot g (spill g) None
-  safe-spill = record { room = R; more = omega arith; spares = λ k n. (refl, refl); known = safe-none .known }
+  safe-spill = record { room = R; more = omega arith; spares = λ k n. (refl, refl); long = refl; known = safe-none .known }
 
   pub safe-comes : (class : V → Class) (h : Grid V) (from : Entry) (c : Configuration) → Comes class cap g h slot from c → Safe cap slot g h None
-  safe-comes class h from c C = record { room = C .room; more = C .enters .more; spares = C .spares; known = λ x e. absurd (none-some x e) }
+  safe-comes class h from c C = record { room = C .room; more = C .enters .more; spares = C .spares; long = C .enters .long; known = λ x e. absurd (none-some x e) }
     where
       none-some : (x : Entry) → _≡_ {A = Option Entry} None (Some x) → ⊥
       none-some x e = let z : _≡_ {A = ℕ} 0 1 = cc in omega arith
 
   pub safe-told : (x : Entry) → x .parent < g .used → Safe cap slot g g (Some x)
-  safe-told x l = record { room = R; more = omega arith; spares = λ k n. (refl, refl); known = λ y e. subst (λ (o : Option Entry). Told o) e l }
+  safe-told x l = record { room = R; more = omega arith; spares = λ k n. (refl, refl); long = refl; known = λ y e. subst (λ (o : Option Entry). Told o) e l }
     where
       Told : Option Entry → Type 0
       Told None = Unit {0}
@@ -194,5 +194,6 @@ safe-on cap slot g h j r A B = record {
   room = B .room;
   more = let m = A .more in let n = B .more in omega arith;
   spares = λ k n. (B .spares k n .0 ∙ A .spares k n .0, B .spares k n .1 ∙ A .spares k n .1);
+  long = B .long ∙ A .long;
   known = B .known;
 }

@@ -6,3 +6,4 @@ pub mod Searches
 pub mod Fronts
 pub mod Tables
 pub mod Fills
+pub mod Judging

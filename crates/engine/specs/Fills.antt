@@ -67,6 +67,7 @@ pub record Safe {V : Type 0} (cap slot : ℕ) (g h : Grid V) (r : Option Entry) 
   pub room : Room cap h
   pub more : g .used ≤ h .used
   pub spares : Spares slot (g .front) (h .front)
+  pub long : length (h .book) ≡ length (g .book)
   pub known : (x : Entry) → r ≡ Some x → x .parent < h .used
 
 -- the entry that is told

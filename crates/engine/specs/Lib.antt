@@ -2,3 +2,4 @@ pub mod Views
 pub mod Trails
 pub mod Fronts
 pub mod Fills
+pub mod Judging

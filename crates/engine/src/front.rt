@@ -47,6 +47,15 @@ pub enum Filling {
     Stands,
 }
 
+// What the deciding rule comes to. Where the watch breaks: at which position, and by which step from which entry.
+#[derive(Clone, Copy)]
+pub enum Ruling {
+    Breaks(usize, Entry),
+    Spills,
+    Overfills,
+    GoesOn,
+}
+
 impl Front {
     // No configuration at any position.
     pub(crate) fn new() -> Front

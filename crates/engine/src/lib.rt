@@ -4,6 +4,7 @@ pub mod book;
 pub mod entry;
 pub mod fill;
 pub mod front;
+pub mod judge;
 pub mod row;
 pub mod scene;
 pub mod table;

@@ -16,7 +16,7 @@ pub returns-in-Some : need.returns-in-Some
 returns-in-Some g c =
     let b = c .args .book .now in
     let G₀ = grid (c .args .front .now) (c .args .rows .now) (vec-items (b .entries)) (b .used) in record {
-      safe = let S = c .in-Some .ensures tt .safe in record { room = S .room; more = S .more; spares = S .spares; known = S .known };
+      safe = let S = c .in-Some .ensures tt .safe in record { room = S .room; more = S .more; spares = S .spares; long = S .long; known = S .known };
       fills = λ P k L w W R.
         let row = λ (q : ℕ). row-at (g .K·Kind .class) (c .args .cap) G₀ (q % 5) in
         let e = errs P k L w row (c .args .base) (c .args .p) (R .steps) (R .from) (R .earlier) (row (c .args .p)) (R .before) in
@@ -28,7 +28,7 @@ pub returns-then-front : need.returns-then-front
 returns-then-front g c =
     let b = c .args .book .now in
     let G₀ = grid (c .args .front .now) (c .args .rows .now) (vec-items (b .entries)) (b .used) in record {
-      safe = let S = c .in-None .ensures tt .safe in record { room = S .room; more = S .more; spares = S .spares; known = S .known };
+      safe = let S = c .in-None .ensures tt .safe in record { room = S .room; more = S .more; spares = S .spares; long = S .long; known = S .known };
       fills = λ P k L w W R.
         let row = λ (q : ℕ). row-at (g .K·Kind .class) (c .args .cap) G₀ (q % 5) in
         let e = errs P k L w row (c .args .base) (c .args .p) (R .steps) (R .from) (R .earlier) (row (c .args .p)) (R .before) in
@@ -45,7 +45,7 @@ returns g c =
     let b₂ = c .step-rows .last .book in
     let G₀ = grid (c .args .front .now) (c .args .rows .now) (vec-items (b .entries)) (b .used) in
     let G₂ = grid (c .step-rows .last .front) (c .step-rows .last .rows) (vec-items (b₂ .entries)) (b₂ .used) in record {
-      safe = let S = c .in-None .ensures tt .safe in record { room = S .room; more = S .more; spares = S .spares; known = S .known };
+      safe = let S = c .in-None .ensures tt .safe in record { room = S .room; more = S .more; spares = S .spares; long = S .long; known = S .known };
       fills = λ P k L w W R.
         let p = c .args .p in
         let row = λ (q : ℕ). row-at class (c .args .cap) G₀ (q % 5) in
