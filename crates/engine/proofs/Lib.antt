@@ -7,3 +7,4 @@ pub mod Fronts
 pub mod Tables
 pub mod Fills
 pub mod Judging
+pub mod Windows

@@ -3,3 +3,4 @@ pub mod Trails
 pub mod Fronts
 pub mod Fills
 pub mod Judging
+pub mod Windows

@@ -8,3 +8,4 @@ pub mod judge;
 pub mod row;
 pub mod scene;
 pub mod table;
+pub mod window;
