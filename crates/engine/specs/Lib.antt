@@ -4,3 +4,4 @@ pub mod Fronts
 pub mod Fills
 pub mod Judging
 pub mod Windows
+pub mod States

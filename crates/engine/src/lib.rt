@@ -7,5 +7,7 @@ pub mod front;
 pub mod judge;
 pub mod row;
 pub mod scene;
+pub mod settle;
+pub mod state;
 pub mod table;
 pub mod window;
