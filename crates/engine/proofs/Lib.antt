@@ -8,3 +8,5 @@ pub mod Tables
 pub mod Fills
 pub mod Judging
 pub mod Windows
+pub mod Starts
+pub mod Advances

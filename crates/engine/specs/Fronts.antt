@@ -27,6 +27,13 @@ entries-at F k = take (count-at F k) (drop (64 * k) (F .entries))
 abbrev pub Bare : Front → Type 0
 Bare F = (length (F .states) ≡ 320) × (length (F .entries) ≡ 320) × ((k : ℕ) → count-at F k ≡ 0)
 
+-- G is F with none at a position
+pub record Cleared (F G : Front) (slot : ℕ) : Type 0 where
+  pub states : G .states ≡ F .states
+  pub entries : G .entries ≡ F .entries
+  pub count-here : count-at G slot ≡ 0
+  pub count-other : (k : ℕ) → (k ≡ slot → ⊥) → count-at G k ≡ count-at F k
+
 -- G is F with one configuration more at a position
 pub record Added (F G : Front) (slot state entry : ℕ) : Type 0 where
   pub long : length (G .states) ≡ length (F .states)

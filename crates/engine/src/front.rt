@@ -2,7 +2,7 @@
 ghost use mathlib.Core.Path.{_≡_};
 ghost use Prim.Native.Nat.{ℕ, _+_, _*_, _<_, _≤_};
 ghost use lib.ListN.{length, getD};
-ghost use Rattle.engine.specs.Fronts.{Added, Bare, states-at};
+ghost use Rattle.engine.specs.Fronts.{Added, Bare, Cleared, states-at};
 use crate::entry::Entry;
 
 // Sixty-four places for each of five positions, of which the first `counts` are in use; whether more configurations came than may be.
@@ -78,6 +78,14 @@ impl Front {
         let from = 64 * slot;
         let to = from + self.counts[slot];
         &self.states[from..to]
+    }
+
+    // Takes all configurations from a position.
+    pub(crate) fn clear(&mut self, slot: usize)
+        requires { ⌜ slot < 5 ⌝ }
+        ensures { λ _. ⌜ Cleared (now (self .entry)) (now (self .exit)) slot ⌝ }
+    {
+        self.counts[slot] = 0;
     }
 
     // One configuration more at a position that has room: its state, and its entry in the book.

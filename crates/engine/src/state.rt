@@ -14,5 +14,4 @@ pub struct State<V> {
     pub held: [V; 8],
     pub scratch: [V; 8],
     pub cap: usize,
-    pub judged: usize,
 }

@@ -7,7 +7,7 @@ ghost use lib.ListN.{length, getD, take, drop};
 ghost use lib.Dec.{eqb};
 ghost use Rattle.topl.specs.Table.{Event as Happening, calls};
 ghost use Rattle.topl.specs.Theorems.{seen as shown, value-places};
-ghost use Rattle.engine.specs.Windows.{Remembers};
+ghost use Rattle.engine.specs.Windows.{Remembers, Sized};
 use kinds::kind::Kind;
 
 // The ids of at most four events, and the six places of each; the first `seen` count.
@@ -40,9 +40,9 @@ fn place_of<K: Kind>(id: u32, values: &[K::Value], i: usize) -> K::Value
 
 // Forgets the first of four events: no statement that starts there can wait any more.
 pub(crate) fn forget<K: Kind>(window: &mut Window<K::Value>)
-    requires { ⌜ (now window .seen ≤ 4) × (length (now window .places) ≡ 24) ⌝ }
+    requires { ⌜ (now window .seen ≤ 4) × Sized (now window) ⌝ }
     ensures few { λ _. ⌜ now (window .exit) .seen ≤ 3 ⌝ }
-    ensures long { λ _. ⌜ length (now (window .exit) .places) ≡ 24 ⌝ }
+    ensures long { λ _. ⌜ Sized (now (window .exit)) ⌝ }
     ensures rest { λ _. ⌜ ((L : List Happening) → Remembers (K·Kind .class) (now (window .entry)) (drop (length L - 4) L) → Remembers (K·Kind .class) (now (window .exit)) (drop (length L - 3) L)) ⌝ }
 {
     if window.seen < 4 {
@@ -61,9 +61,9 @@ pub(crate) fn forget<K: Kind>(window: &mut Window<K::Value>)
 
 // One event more.
 pub(crate) fn witness<K: Kind>(window: &mut Window<K::Value>, id: u32, values: &[K::Value])
-    requires { ⌜ (now window .seen ≤ 3) × (length (now window .places) ≡ 24) ⌝ }
+    requires { ⌜ (now window .seen ≤ 3) × Sized (now window) ⌝ }
     ensures more { λ _. ⌜ now (window .exit) .seen ≡ now (window .entry) .seen + 1 ⌝ }
-    ensures long { λ _. ⌜ length (now (window .exit) .places) ≡ 24 ⌝ }
+    ensures long { λ _. ⌜ Sized (now (window .exit)) ⌝ }
     ensures last { λ _. ⌜ ((es : List Happening) → Remembers (K·Kind .class) (now (window .entry)) es
         → Remembers (K·Kind .class) (now (window .exit)) (es ++ shown (K·Kind .class) id (now (values .entry)) ∷ [])) ⌝ }
 {

@@ -23,8 +23,8 @@ judge-requires g c κs =
     let F = c .pre .2 in
     let rows : take (40 * s .cap - 0) (c .deref-mut .result .now) ≡ take (40 * s .cap) (vec-items (s .board)) =
       ap (λ (z : ℕ). take z (c .deref-mut .result .now)) (let z : 40 * s .cap - 0 ≡ 40 * s .cap = omega arith in z) ∙ ap (take (40 * s .cap)) (c .deref-mut .ensures .value) in
-    let a = length-take-le (s .window .seen - 0) (s .window .ids) (omega (arith, F .0)) in
-    let b = length-take-le (6 * s .window .seen - 0) (s .window .places) (omega (arith, F .0, F .1)) in (
+    let a = length-take-le (s .window .seen - 0) (s .window .ids) (omega (arith, F .0, F .1 .0)) in
+    let b = length-take-le (6 * s .window .seen - 0) (s .window .places) (omega (arith, F .0, F .1 .1)) in (
       (c .pre .0, c .pre .1, omega arith),
       omega arith,
       search needs,
@@ -46,7 +46,6 @@ returns g c =
         fit = (F .0, F .1, F .2, subst (λ z. Room (s .cap) (grid (c .judge .last .front) z (vec-items (b₃ .entries)) (b₃ .used))) (sym front) (c .judge .ensures .room));
         window = refl;
         cap = refl;
-        judged = refl;
         board = refl;
         book = c .judge .ensures .long;
         known = c .judge .ensures .known;

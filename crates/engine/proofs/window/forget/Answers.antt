@@ -31,7 +31,7 @@ loop-j-again g c =
     let j = c .loop-j .j in
     let x = c .index-window-j .result in
     let n = c .loop-i .inv .1 in
-    let l : j + 6 < length (W .places) = omega (arith, c .loop-j-test .taken, ap length n, c .pre .1) in
+    let l : j + 6 < length (W .places) = omega (arith, c .loop-j-test .taken, ap length n, c .pre .1 .1) in
     (ap (λ z. set z j (getD z (j + 6) x)) e ∙ shift-more (W .places) 6 j (getD (take j (drop 6 (W .places)) ++ drop j (W .places)) (j + 6) x) x l refl, c .loop-j .inv .1)
 
 pub returns : need.returns
@@ -40,13 +40,13 @@ returns g c =
     let n = c .loop-i .inv .1 in
     let i : c .loop-i .i ≡ 3 = omega arith in
     let j : c .loop-j .j ≡ 18 = omega arith in
-    let four : length (W .ids) ≡ 4 = omega arith in
-    let many = c .pre .1 in
+    let four = c .pre .1 .0 in
+    let many = c .pre .1 .1 in
     let a = shift-done (W .ids) 1 (c .loop-i .i) (c .loop-i .window .ids) (omega arith) (omega arith) (c .loop-i .inv .0) in
     let b = shift-done (W .places) 6 (c .loop-j .j) (c .loop-j .window .places) (omega arith) (omega arith) (subst (λ z. c .loop-j .window .places ≡ take (c .loop-j .j) (drop 6 z) ++ drop (c .loop-j .j) z) n (c .loop-j .inv .0)) in
     let s : W .seen ≡ 4 = omega (arith, c .if-window-lt4 .left, c .pre .0) in record {
       few = omega arith;
-      long = ap length (subst (λ z. c .loop-j .window .places ≡ take (c .loop-j .j) (drop 6 z) ++ drop (c .loop-j .j) z) n (c .loop-j .inv .0)) ∙ shift-long (W .places) 6 (c .loop-j .j) (omega arith) ∙ many;
+      long = (ap length (c .loop-j .inv .1 ∙ c .loop-i .inv .0) ∙ shift-long (W .ids) 1 (c .loop-i .i) (omega arith) ∙ four, ap length (subst (λ z. c .loop-j .window .places ≡ take (c .loop-j .j) (drop 6 z) ++ drop (c .loop-j .j) z) n (c .loop-j .inv .0)) ∙ shift-long (W .places) 6 (c .loop-j .j) (omega arith) ∙ many);
       rest = λ L S. forget-first (g .K·Kind .class) L (W .ids) (c .loop-j .window .ids) (W .places) (c .loop-j .window .places) four many (ap (take (length (W .ids) - 1)) (c .loop-j .inv .1) ∙ a) b
           (subst (λ (m : ℕ). Seen (g .K·Kind .class) (take m (W .ids)) (take (6 * m) (W .places)) (drop (length L - 4) L)) s S);
     }
