@@ -141,7 +141,7 @@ module _ {V : Type 0} (class : V → Class) where
     few : count-at (g .front) slot ≤ 64
     few = let a = R .0 in let b = R .3 slot in omega arith
 
-    added-here : row-at class cap (grid G news fs used′) slot ≡ row-at class cap g slot ++ configuration class state registers ∷ []
+    pub added-here : row-at class cap (grid G news fs used′) slot ≡ row-at class cap g slot ++ configuration class state registers ∷ []
     added-here =
         let n : length (states-at (g .front) slot) ≡ count-at (g .front) slot = length-states (g .front) slot (R .2) five few in
         let f = fits-in in
@@ -169,7 +169,7 @@ module _ {V : Type 0} (class : V → Class) where
         (cases-lt k slot) in
         ap (λ z. row class z (drop to news)) (A .states-other k ne) ∙ row-same (states-at (g .front) k) (drop to news) (drop to (g .rows)) same
 
-    added-room : g .used ≤ used′ → entry < used′ → Room cap (grid G news fs used′)
+    pub added-room : g .used ≤ used′ → entry < used′ → Room cap (grid G news fs used′)
     added-room m b =
         let f = fits-in in (
           R .0,

@@ -8,5 +8,6 @@ pub mod Tables
 pub mod Fills
 pub mod Judging
 pub mod Windows
+pub mod Opens
 pub mod Starts
 pub mod Advances

@@ -36,7 +36,7 @@ impl Book {
     }
 
     // Begins the book anew with the entry of the start, if there is room for one.
-    pub(crate) fn open(&mut self)
+    pub(crate) fn begin(&mut self)
         ensures entries { λ _. ⌜ now (self .exit) .entries ≡ now (self .entry) .entries ⌝ }
         ensures used { λ _. ⌜ now (self .exit) .used ≡ min 1 (room-of (vec-items (now (self .entry) .entries))) ⌝ }
     {

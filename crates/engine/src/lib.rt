@@ -6,6 +6,7 @@ pub mod entry;
 pub mod fill;
 pub mod front;
 pub mod judge;
+pub mod open;
 pub mod row;
 pub mod scene;
 pub mod settle;

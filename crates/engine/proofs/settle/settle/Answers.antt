@@ -1,21 +1,15 @@
 use mathlib.Core.Path.{_≡_, refl, sym, ap, subst, _∙_}
-use mathlib.Core.List.{List, _++_}
 use Prim.Native.Nat.{ℕ, _+_, _-_, _*_, _≤_}
 use native.Mathlib.Omega.{arith}
 use lib.ListN.{length, take, drop, length-take}
 use Rattle.std.specs.Of.Vec.{vec-items, vec-len}
-use Rattle.std.proofs.shelf.Lists.{take-take, take-append-le, take-all, length-append, length-take-le}
+use Rattle.std.proofs.shelf.Lists.{length-take-le}
 use borrow.Author.Needs.{needs}
 use Rattle.engine.specs.Views.{Seen}
 use Rattle.engine.specs.Fronts.{grid, Room}
 use Rattle.engine.specs.Judging.{Start, Decided}
+use Rattle.engine.proofs.Opens.{front-part}
 use Rattle.engine.proofs.settle.settle.Needs as need
-
--- the front part of a board that was lent and came back
-front-part : {V : Type 0} (n m : ℕ) (xs ys zs : List V) → length xs ≡ n → n ≤ m → take n (take m ((xs ++ ys) ++ zs)) ≡ xs
-front-part n m xs ys zs e l =
-    let a : n ≤ length (xs ++ ys) = let z = length-append xs ys in omega arith in
-    take-take n m ((xs ++ ys) ++ zs) l ∙ (take-append-le n (xs ++ ys) zs a ∙ (take-append-le n xs ys (omega arith) ∙ take-all n xs (omega arith)))
 
 pub judge-requires : need.judge-requires
 judge-requires g c κs =
