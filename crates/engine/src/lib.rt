@@ -7,6 +7,7 @@ pub mod fill;
 pub mod front;
 pub mod judge;
 pub mod open;
+pub mod property;
 pub mod row;
 pub mod scene;
 pub mod settle;

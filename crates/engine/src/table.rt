@@ -1,5 +1,12 @@
 // A property's statements as code holds them.
 
+// A declared method: its number, and how many values a call has.
+#[derive(Clone, Copy)]
+pub struct Method {
+    pub number: u32,
+    pub arity: usize,
+}
+
 // What one place of an event has to be: any value; any, which is written to a register; the value of a register; any other.
 #[derive(Clone, Copy)]
 pub enum Pattern {
