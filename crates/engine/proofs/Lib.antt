@@ -1,0 +1,14 @@
+pub mod Fits
+pub mod Attempts
+pub mod Sound
+pub mod Trails
+pub mod Searches
+pub mod Fronts
+pub mod Tables
+pub mod Properties
+pub mod Fills
+pub mod Judging
+pub mod Windows
+pub mod Opens
+pub mod Starts
+pub mod Advances
