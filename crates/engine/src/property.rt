@@ -26,7 +26,7 @@ pub struct Table {
 
 impl Table {
     // The table that no text has filled yet.
-    pub fn empty(heap: Global) -> Table
+    pub(crate) fn empty(heap: Global) -> Table
         ensures { λ r. ⌜ table (vec-items (r .methods)) (vec-items (r .constants)) (vec-items (r .statements)) ≡ empty-table ⌝ }
     {
         Table {
@@ -37,14 +37,14 @@ impl Table {
     }
 
     // The declared methods.
-    pub fn methods(&self) -> &[Method]
+    pub(crate) fn methods(&self) -> &[Method]
         ensures { λ r. ⌜ now r ≡ vec-items (now (self .entry) .methods) ⌝ }
     {
         &self.methods
     }
 
     // The registers of the constants, which are among the eight.
-    pub fn constants(&self) -> &[u8]
+    pub(crate) fn constants(&self) -> &[u8]
         ensures are { λ r. ⌜ now r ≡ vec-items (now (self .entry) .constants) ⌝ }
         ensures registers { λ r. ⌜ every (λ n. ltb n 8) (now r) ≡ true ⌝ }
     {
@@ -52,7 +52,7 @@ impl Table {
     }
 
     // The written statements, at most 64.
-    pub fn statements(&self) -> &[Statement]
+    pub(crate) fn statements(&self) -> &[Statement]
         ensures are { λ r. ⌜ now r ≡ vec-items (now (self .entry) .statements) ⌝ }
         ensures sound { λ r. ⌜ every sound (now r) ≡ true ⌝ }
         ensures few { λ r. ⌜ length (now r) ≤ 64 ⌝ }
