@@ -68,18 +68,18 @@ module _ {V : Type 0} (class : V → Class) (cap : ℕ) (P : T.Table) (k : Regis
           subst (λ z. Reach P k w p (getD z i (first-configuration [])) (steps-to (h .book) (getD (entries-at (h .front) slot) i 0))) (sym (C .row-here))
           (subst (λ z. Reach P k w p (getD (row-at class cap g slot ++ c ∷ []) i (first-configuration [])) (steps-to (h .book) (getD z i 0))) (sym (C .entries-here))
           (⊎-elim
-            (λ (low : i < count-at (g .front) slot).
-              let b : getD (entries-at (g .front) slot) i 0 < g .used = R .5 slot i (omega arith) in
-              let s : steps-to (h .book) (getD (entries-at (g .front) slot ++ C .entry ∷ []) i 0) ≡ steps-to (g .book) (getD (entries-at (g .front) slot) i 0) =
-              ap (steps-to (h .book)) (getD-append-left (entries-at (g .front) slot) (C .entry ∷ []) 0 i (omega arith)) ∙ C .enters .old (getD (entries-at (g .front) slot) i 0) b in
-              subst (λ z. Reach P k w p z (steps-to (h .book) (getD (entries-at (g .front) slot ++ C .entry ∷ []) i 0))) (sym (getD-append-left (row-at class cap g slot) (c ∷ []) (first-configuration []) i (omega arith)))
-              (subst (Reach P k w p (getD (row-at class cap g slot) i (first-configuration []))) (sym s) (t i low)))
-            (λ (high : count-at (g .front) slot ≤ i).
-              let s : steps-to (h .book) (getD (entries-at (g .front) slot ++ C .entry ∷ []) i 0) ≡ steps-by (g .book) from =
-              ap (steps-to (h .book)) (getD-push (entries-at (g .front) slot) (C .entry) 0 i (omega arith)) ∙ new .1 in
-              subst (λ z. Reach P k w p z (steps-to (h .book) (getD (entries-at (g .front) slot ++ C .entry ∷ []) i 0))) (sym (getD-push (row-at class cap g slot) c (first-configuration []) i (omega arith)))
-              (subst (Reach P k w p c) (sym s) r))
-            (cases-lt i (count-at (g .front) slot))))
+          (λ (low : i < count-at (g .front) slot).
+          let b : getD (entries-at (g .front) slot) i 0 < g .used = R .5 slot i (omega arith) in
+          let s : steps-to (h .book) (getD (entries-at (g .front) slot ++ C .entry ∷ []) i 0) ≡ steps-to (g .book) (getD (entries-at (g .front) slot) i 0) =
+          ap (steps-to (h .book)) (getD-append-left (entries-at (g .front) slot) (C .entry ∷ []) 0 i (omega arith)) ∙ C .enters .old (getD (entries-at (g .front) slot) i 0) b in
+          subst (λ z. Reach P k w p z (steps-to (h .book) (getD (entries-at (g .front) slot ++ C .entry ∷ []) i 0))) (sym (getD-append-left (row-at class cap g slot) (c ∷ []) (first-configuration []) i (omega arith)))
+          (subst (Reach P k w p (getD (row-at class cap g slot) i (first-configuration []))) (sym s) (t i low)))
+          (λ (high : count-at (g .front) slot ≤ i).
+          let s : steps-to (h .book) (getD (entries-at (g .front) slot ++ C .entry ∷ []) i 0) ≡ steps-by (g .book) from =
+          ap (steps-to (h .book)) (getD-push (entries-at (g .front) slot) (C .entry) 0 i (omega arith)) ∙ new .1 in
+          subst (λ z. Reach P k w p z (steps-to (h .book) (getD (entries-at (g .front) slot ++ C .entry ∷ []) i 0))) (sym (getD-push (row-at class cap g slot) c (first-configuration []) i (omega arith)))
+          (subst (Reach P k w p c) (sym s) r))
+          (cases-lt i (count-at (g .front) slot))))
 
       pub grows-added : Grows class cap slot P k w p g h (c ∷ [])
       grows-added = record {

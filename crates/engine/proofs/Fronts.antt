@@ -178,7 +178,7 @@ module _ {V : Type 0} (class : V → Class) where
           λ k. ⊎-elim (λ (q : k ≡ slot). subst (λ (z : ℕ). count-at G z ≤ cap) (sym q) (let a = A .count-here in omega arith)) (λ ne. let a = A .count-other k ne in let b = R .3 k in omega arith) (cases-eq k slot),
           A .long-entries ∙ R .4,
           λ k. ⊎-elim (λ (q : k ≡ slot). subst (λ (z : ℕ). Below used′ (entries-at G z)) (sym q) (subst (Below used′) (sym (A .entries-here)) (below-push (g .used) used′ entry (entries-at (g .front) slot) m b (R .5 slot))))
-            (λ ne. subst (Below used′) (sym (A .entries-other k ne)) (λ i h. let z = R .5 k i h in omega arith)) (cases-eq k slot),
+              (λ ne. subst (Below used′) (sym (A .entries-other k ne)) (λ i h. let z = R .5 k i h in omega arith)) (cases-eq k slot),
         )
 
     pub comes : (from : Entry) → Enters (g .book) (g .used) from fs used′ entry → holds alikeᶜ (row-at class cap g slot) (configuration class state registers) ≡ false →

@@ -54,7 +54,7 @@ module _ {V : Type 0} (class : V → Class) (cap slot : ℕ) (g : Grid V) (G : F
     λ k. ⊎-elim (λ (e : k ≡ slot). subst (λ (z : ℕ). count-at G z ≤ cap) (sym e) (let a = C .count-here in omega arith)) (λ ne. let a = C .count-other k ne in let b = R .3 k in omega arith) (cases-eq k slot),
     ap length (C .entries) ∙ R .4,
     λ k. ⊎-elim (λ (e : k ≡ slot). subst (λ (z : ℕ). Below (g .used) (entries-at G z)) (sym e) (subst (λ (z : ℕ). Below (g .used) (take z (drop (64 * slot) (G .entries)))) (sym (C .count-here)) (λ i l. absurd (omega arith))))
-      (λ ne. subst (Below (g .used)) (sym (cleared-entries k ne)) (R .5 k)) (cases-eq k slot),
+        (λ ne. subst (Below (g .used)) (sym (cleared-entries k ne)) (R .5 k)) (cases-eq k slot),
   )
 
 module _ (P : T.Table) (k : Registers) (cap book : ℕ) (L : List T.Event) (S : Steady P k cap book L) where
@@ -62,8 +62,8 @@ module _ (P : T.Table) (k : Registers) (cap book : ℕ) (L : List T.Event) (S : 
   no-error : (q : ℕ) (row : List Configuration) → Stands P k (so-far L) q row → any-error row ≡ false
   no-error q row h = ⊎-elim
       (λ (t : any-error row ≡ true).
-        let x = any-error-sound row t in
-        absurd (S .0 q (x .0, x .2, enumerates P k (so-far L) q .2 (x .0) .0 (holds-∈ alikeᶜ-tests (reached P k (so-far L) q) (x .0) (sym (h (x .0)) ∙ ∈-holds alikeᶜ-tests (x .1))))))
+      let x = any-error-sound row t in
+      absurd (S .0 q (x .0, x .2, enumerates P k (so-far L) q .2 (x .0) .0 (holds-∈ alikeᶜ-tests (reached P k (so-far L) q) (x .0) (sym (h (x .0)) ∙ ∈-holds alikeᶜ-tests (x .1))))))
       (λ f. f) (cases-bool (any-error row))
 
   -- nothing is reached past the events
@@ -95,18 +95,18 @@ module _ {V : Type 0} (class : V → Class) (cap : ℕ) (g : Grid V) (P : T.Tabl
           once = ap (apart alikeᶜ) (cleared-here class cap (suc (length L) % 5) g G C);
         }))
         (λ (ne : q ≡ suc (length L) → ⊥).
-          let few : q ≤ length L = omega (arith, λ (z : q ≡ suc (length L)). ne z) in
-          let r = cleared-row class cap (suc (length L) % 5) g G C (q % 5) (λ z. omega arith) in
-          let h = held q l few in
-          record { stands = subst (Stands P k (so-far L) q) (sym r) (h .stands); once = subst (λ z. apart alikeᶜ z ≡ true) (sym r) (h .once) })
+        let few : q ≤ length L = omega (arith, λ (z : q ≡ suc (length L)). ne z) in
+        let r = cleared-row class cap (suc (length L) % 5) g G C (q % 5) (λ z. omega arith) in
+        let h = held q l few in
+        record { stands = subst (Stands P k (so-far L) q) (sym r) (h .stands); once = subst (λ z. apart alikeᶜ z ≡ true) (sym r) (h .once) })
         (cases-eq q (suc (length L)))
 
     now-tracked : (q : ℕ) → length L - 3 ≤ q → q ≤ suc (length L) → Tracked class cap P k (so-far (L ++ (e ∷ []))) q (cleared class cap (suc (length L) % 5) g G C) (q % 5)
     now-tracked q l m = ⊎-elim
         (λ (i : q ≡ suc (length L)). subst (λ (z : ℕ). Tracked class cap P k (so-far (L ++ (e ∷ []))) z (cleared class cap (suc (length L) % 5) g G C) (z % 5)) (sym i) (λ j h. let z = C .count-here in absurd (omega arith)))
         (λ (ne : q ≡ suc (length L) → ⊥).
-          let few : q ≤ length L = omega (arith, λ (z : q ≡ suc (length L)). ne z) in
-          cleared-tracked class cap (suc (length L) % 5) g G C P k (so-far (L ++ (e ∷ []))) q (q % 5) (λ z. omega arith) (λ j h. persists P k L (e ∷ []) q _ _ (tracked q l few j h) .0))
+        let few : q ≤ length L = omega (arith, λ (z : q ≡ suc (length L)). ne z) in
+        cleared-tracked class cap (suc (length L) % 5) g G C P k (so-far (L ++ (e ∷ []))) q (q % 5) (λ z. omega arith) (λ j h. persists P k L (e ∷ []) q _ _ (tracked q l few j h) .0))
         (cases-eq q (suc (length L)))
 
     pub start-feed : Start class cap (cleared class cap (suc (length L) % 5) g G C) (length L - 3) (suc (length L)) P k L (so-far (L ++ (e ∷ [])))

@@ -110,10 +110,11 @@ pub fill-back : (S T done page from rest : List ℕ) (left step : ℕ) (steps : 
 fill-back S T done page from rest left step steps more e t room p =
     let n : length steps ≡ length S + 1 = ap length more ∙ length-append S (step ∷ []) in
     let k : left ≡ suc (length S) = omega arith in
-    let k′ : left - 1 ≡ length S = omega arith in
-    (t ∙ ap (λ (z : List ℕ). z ++ done) more ∙ append-assoc S (step ∷ []) done,
+    let k′ : left - 1 ≡ length S = omega arith in (
+      t ∙ ap (λ (z : List ℕ). z ++ done) more ∙ append-assoc S (step ∷ []) done,
       ap (λ (z : List ℕ). set z (left - 1) step) p ∙ ap (λ (z : ℕ). set (take left from ++ (done ++ rest)) z step) k′ ∙ ap (λ (z : ℕ). set (take z from ++ (done ++ rest)) (length S) step) k
-      ∙ set-back (length S) from (done ++ rest) step (omega arith) ∙ ap (λ (z : ℕ). take z from ++ (step ∷ (done ++ rest))) (sym k′))
+          ∙ set-back (length S) from (done ++ rest) step (omega arith) ∙ ap (λ (z : ℕ). take z from ++ (step ∷ (done ++ rest))) (sym k′),
+    )
 
 -- the whole of what was written, when the start is reached
 pub filled-page : (S T done page from rest : List ℕ) (left : ℕ) → S ≡ [] → left ≡ length S → T ≡ S ++ done → page ≡ take left from ++ (done ++ rest) → page ≡ T ++ rest
@@ -142,10 +143,17 @@ module _ (es : List Entry) (used : ℕ) (x : Entry) (linked : Linked es used) (r
     new = λ _. (
       refl,
       ap (steps-to (set es used x)) e ∙ steps-more (set es used x) (used + 1) linked-more used (omega arith) (omega arith) ∙ ap (λ (y : Entry). steps-to (set es used x) (y .parent) ++ (y .step ∷ [])) here
-      ∙ ap (λ (zs : List ℕ). zs ++ (x .step ∷ [])) (steps-keep es (set es used x) used linked below (x .parent) (λ q. known)),
+          ∙ ap (λ (zs : List ℕ). zs ++ (x .step ∷ [])) (steps-keep es (set es used x) used linked below (x .parent) (λ q. known)),
     );
   }
 
 -- no room for it
 pub unentered : (es : List Entry) (used : ℕ) (x : Entry) → x .parent < used → room-of es ≤ used → Enters es used x es used (x .parent)
 unentered es used x known full = record { known = known; more = omega arith; long = refl; old = λ k h. refl; new = λ l. absurd (omega (arith, l, full)) }
+
+-- the steps to an entry and one more, in the front of a page
+pub page-written : (ss page after : List ℕ) (v n : ℕ) → n ≡ length ss → n < length page → after ≡ ss ++ drop (length ss) page →
+    (n + 1 ≡ length (ss ++ (v ∷ []))) × (set after n v ≡ (ss ++ (v ∷ [])) ++ drop (length (ss ++ (v ∷ []))) page)
+page-written ss page after v n e l h =
+    let m : length (ss ++ (v ∷ [])) ≡ suc (length ss) = (let z = length-append ss (v ∷ []) in omega arith) in
+    (omega arith, ap (λ z. set z n v) h ∙ ap (λ (z : ℕ). set (ss ++ drop (length ss) page) z v) e ∙ set-front ss page v (omega arith) ∙ ap (λ (z : ℕ). (ss ++ (v ∷ [])) ++ drop z page) (sym m))

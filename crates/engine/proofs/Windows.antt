@@ -65,13 +65,13 @@ module _ {V : Type 0} (class : V → Class) (ids : List ℕ) (window : List V) (
   seen-rest = (
     (let a = length-drop 1 es in let b = length-drop 1 ids in let n = S .0 in omega arith),
     λ j l.
-      let b = length-drop 1 ids in
-      let s = S .1 (1 + j) (omega arith) in
-      let n : 6 + 6 * j ≡ 6 * (1 + j) = omega arith in
-      let e : T.Event = record { id = 0; values = [] } in
-      subst (λ z. Shown class z (take 6 (drop (6 * j) (drop 6 window))) (getD (drop 1 es) j e)) (sym (getD-drop 1 ids j 0))
-      (subst (λ z. Shown class (getD ids (1 + j) 0) z (getD (drop 1 es) j e)) (sym (ap (take 6) (drop-drop (6 * j) 6 window ∙ ap (λ (z : ℕ). drop z window) n)))
-      (subst (Shown class (getD ids (1 + j) 0) (take 6 (drop (6 * (1 + j)) window))) (sym (getD-drop 1 es j e)) s)),
+        let b = length-drop 1 ids in
+        let s = S .1 (1 + j) (omega arith) in
+        let n : 6 + 6 * j ≡ 6 * (1 + j) = omega arith in
+        let e : T.Event = record { id = 0; values = [] } in
+        subst (λ z. Shown class z (take 6 (drop (6 * j) (drop 6 window))) (getD (drop 1 es) j e)) (sym (getD-drop 1 ids j 0))
+        (subst (λ z. Shown class (getD ids (1 + j) 0) z (getD (drop 1 es) j e)) (sym (ap (take 6) (drop-drop (6 * j) 6 window ∙ ap (λ (z : ℕ). drop z window) n)))
+        (subst (Shown class (getD ids (1 + j) 0) (take 6 (drop (6 * (1 + j)) window))) (sym (getD-drop 1 es j e)) s)),
   )
 
   -- and with one more
@@ -79,11 +79,11 @@ module _ {V : Type 0} (class : V → Class) (ids : List ℕ) (window : List V) (
   seen-more id places e w six s = (
     (let a = length-push es e in let b = length-push ids id in let n = S .0 in omega arith),
     λ j l.
-      let b = length-push ids id in
-      let n = S .0 in
-      let d : T.Event = record { id = 0; values = [] } in
-      ⊎-elim
-      (λ (low : j < length ids).
+        let b = length-push ids id in
+        let n = S .0 in
+        let d : T.Event = record { id = 0; values = [] } in
+        ⊎-elim
+        (λ (low : j < length ids).
         let lw : 6 * j + 6 ≤ length window = omega arith in
         let dl = length-drop (6 * j) window in
         let p : take 6 (drop (6 * j) (window ++ places)) ≡ take 6 (drop (6 * j) window) =
@@ -91,11 +91,11 @@ module _ {V : Type 0} (class : V → Class) (ids : List ℕ) (window : List V) (
         subst (λ z. Shown class z (take 6 (drop (6 * j) (window ++ places))) (getD (es ++ e ∷ []) j d)) (sym (getD-append-left ids (id ∷ []) 0 j low))
         (subst (λ z. Shown class (getD ids j 0) z (getD (es ++ e ∷ []) j d)) (sym p)
         (subst (Shown class (getD ids j 0) (take 6 (drop (6 * j) window))) (sym (getD-append-left es (e ∷ []) d j (omega arith))) (S .1 j low))))
-      (λ (high : length ids ≤ j).
+        (λ (high : length ids ≤ j).
         let p : take 6 (drop (6 * j) (window ++ places)) ≡ places = ap (take 6) (drop-at window places (6 * j) (omega arith)) ∙ take-all 6 places (omega arith) in
         subst (λ z. Shown class z (take 6 (drop (6 * j) (window ++ places))) (getD (es ++ e ∷ []) j d)) (sym (getD-push ids id 0 j (omega arith)))
         (subst (λ z. Shown class id z (getD (es ++ e ∷ []) j d)) (sym p) (subst (Shown class id places) (sym (getD-push es e d j (omega arith))) s)))
-      (cases-lt j (length ids)),
+        (cases-lt j (length ids)),
   )
 
 module _ {V : Type 0} (class : V → Class) (L : List T.Event) where

@@ -17,11 +17,18 @@ use crate::front::Ruling;
 use crate::settle::settle;
 use crate::state::State;
 use crate::table::Statement;
-use crate::window::{forget, witness};
+use crate::window::forget;
+use crate::window::witness;
 use kinds::kind::Kind;
 
 // One event more after so many judged ones: the rows of the positions from judged - 2 to judged + 1 are filled in order.
-pub(crate) fn take_event<K: Kind>(s: &mut State<K::Value>, statements: &[Statement], judged: usize, id: u32, values: &[K::Value]) -> Ruling
+pub(crate) fn take_event<K: Kind>(
+    s: &mut State<K::Value>,
+    statements: &[Statement],
+    judged: usize,
+    id: u32,
+    values: &[K::Value],
+) -> Ruling
     requires { ⌜ (every sound (now statements) ≡ true) × (length (now statements) ≤ 64) × Fit (now s) × (judged ≤ 16384) ⌝ }
     ensures stays { λ r. ⌜ Stays (now (s .entry)) (now (s .exit)) r ⌝ }
     ensures rules { λ r. ⌜ ((P : TheTable) (k : Registers) (L : List Happening) → P .statements ≡ map statement (now (statements .entry)) → Lawful P
@@ -36,7 +43,11 @@ pub(crate) fn take_event<K: Kind>(s: &mut State<K::Value>, statements: &[Stateme
 }
 
 // The list has ended after so many judged events.
-pub(crate) fn end_list<K: Kind>(s: &mut State<K::Value>, statements: &[Statement], judged: usize) -> Ruling
+pub(crate) fn end_list<K: Kind>(
+    s: &mut State<K::Value>,
+    statements: &[Statement],
+    judged: usize,
+) -> Ruling
     requires { ⌜ (every sound (now statements) ≡ true) × (length (now statements) ≤ 64) × Fit (now s) × (judged ≤ 16384) ⌝ }
     ensures stays { λ r. ⌜ Stays (now (s .entry)) (now (s .exit)) r ⌝ }
     ensures rules { λ r. ⌜ ((P : TheTable) (k : Registers) (L : List Happening) → P .statements ≡ map statement (now (statements .entry)) → Lawful P

@@ -8,7 +8,10 @@ ghost use Rattle.topl.specs.Table.{Event as Happening, matchers};
 ghost use Rattle.topl.specs.Runs.{fits, meets, written, writes, fares};
 ghost use Rattle.engine.specs.Views.{pattern, matcher, statement, Within, Inside, Shown, Seen, sound, told};
 use crate::scene::Scene;
-use crate::table::{Matcher, Outcome, Pattern, Statement};
+use crate::table::Matcher;
+use crate::table::Outcome;
+use crate::table::Pattern;
+use crate::table::Statement;
 use kinds::kind::Kind;
 
 // Does a value fit a pattern?
@@ -79,7 +82,12 @@ fn places_of<V: Copy>(window: &[V], i: usize) -> &[V]
 }
 
 // How a statement fares from event `from` of the window on. Where it passes, the registers are then those after its writes.
-pub(crate) fn attempt_statement<K: Kind>(scene: &Scene<'_, K::Value>, t: &Statement, from: usize, registers: &mut [K::Value]) -> Outcome
+pub(crate) fn attempt_statement<K: Kind>(
+    scene: &Scene<'_, K::Value>,
+    t: &Statement,
+    from: usize,
+    registers: &mut [K::Value],
+) -> Outcome
     requires { ⌜ (sound (now t) ≡ true) × (length (now (now scene .window)) ≡ 6 * length (now (now scene .ids))) × (from ≤ length (now (now scene .ids))) × (length (now registers) ≡ 8) ⌝ }
     ensures { λ r. ⌜ ((es : List Happening) → Seen (K·Kind .class) (now (now (scene .entry) .ids)) (now (now (scene .entry) .window)) es
         → told r (map (K·Kind .class) (now (registers .exit))) ≡ fares (matchers (statement (now (t .entry)))) (map (K·Kind .class) (now (registers .entry))) (drop from es)) ⌝ }

@@ -16,10 +16,18 @@ ghost use Rattle.engine.specs.Fills.{Ready, Fills, Staged, Watched, Safe, Trac
 use crate::attempt::attempt_statement;
 use crate::book::Book;
 use crate::entry::Entry;
-use crate::front::{Arrival, Filling, Front, Mark, Way};
-use crate::row::{arrive, start};
+use crate::front::Arrival;
+use crate::front::Filling;
+use crate::front::Front;
+use crate::front::Mark;
+use crate::front::Way;
+use crate::row::arrive;
+use crate::row::start;
 use crate::scene::Scene;
-use crate::table::{Matcher, Numbered, Outcome, Statement};
+use crate::table::Matcher;
+use crate::table::Numbered;
+use crate::table::Outcome;
+use crate::table::Statement;
 use kinds::kind::Kind;
 
 // The state that no run may reach.
@@ -83,7 +91,13 @@ fn land<K: Kind>(
 }
 
 // Does a statement that leaves the state let a skip go on: it fails or, once the list has ended, hangs?
-fn is_calm<K: Kind>(scene: &Scene<'_, K::Value>, t: &Statement, from: usize, held: &[K::Value], scratch: &mut [K::Value]) -> bool
+fn is_calm<K: Kind>(
+    scene: &Scene<'_, K::Value>,
+    t: &Statement,
+    from: usize,
+    held: &[K::Value],
+    scratch: &mut [K::Value],
+) -> bool
     requires { ⌜ (sound (now t) ≡ true) × Staged (now scene) × (from ≤ length (now (now scene .ids))) × (length (now held) ≡ 8) × (length (now scratch) ≡ 8) ⌝ }
     ensures { λ r. ⌜ ((es : List Happening) → Seen (K·Kind .class) (now (now (scene .entry) .ids)) (now (now (scene .entry) .window)) es
         → r ≡ calm (mode-of (now (scene .entry) .closed)) (fares (matchers (statement (now (t .entry)))) (map (K·Kind .class) (now (held .entry))) (drop from es))) ⌝ }
@@ -97,7 +111,13 @@ fn is_calm<K: Kind>(scene: &Scene<'_, K::Value>, t: &Statement, from: usize, hel
 }
 
 // Do all statements that leave the state let a skip go on?
-fn is_quiet<K: Kind>(scene: &Scene<'_, K::Value>, from: usize, state: u8, held: &[K::Value], scratch: &mut [K::Value]) -> bool
+fn is_quiet<K: Kind>(
+    scene: &Scene<'_, K::Value>,
+    from: usize,
+    state: u8,
+    held: &[K::Value],
+    scratch: &mut [K::Value],
+) -> bool
     requires { ⌜ Staged (now scene) × (from ≤ length (now (now scene .ids))) × (length (now held) ≡ 8) × (length (now scratch) ≡ 8) ⌝ }
     ensures { λ r. ⌜ ((base : ℕ) (P : TheTable) (w : World) → Watched (K·Kind .class) (now (scene .entry)) base P w
         → r ≡ quiet w (base + from) (configuration (K·Kind .class) state (now (held .entry))) (numbered P)) ⌝ }

@@ -15,7 +15,9 @@ ghost use Rattle.engine.specs.Fills.{Ready, Safe, Staged, Watched};
 ghost use Rattle.engine.specs.Judging.{Balance, Judged, Start, Decided, shown-entry};
 use crate::book::Book;
 use crate::fill::fill_position;
-use crate::front::{Filling, Front, Ruling};
+use crate::front::Filling;
+use crate::front::Front;
+use crate::front::Ruling;
 use crate::scene::Scene;
 use kinds::kind::Kind;
 
@@ -53,7 +55,11 @@ fn judge_position<K: Kind>(
         Filling::Spilled => Ruling::Spills,
         Filling::Stands => {
             let need = (used + front.counts[p % 5]).saturating_sub(before);
-            if is_over(need, book.room()) { Ruling::Overfills } else { Ruling::GoesOn }
+            if is_over(need, book.room()) {
+                Ruling::Overfills
+            } else {
+                Ruling::GoesOn
+            }
         }
     }
 }

@@ -31,7 +31,12 @@ fn start_registers<K: Kind>(constants: &[u8], values: &[K::Value]) -> [K::Value;
 }
 
 // Begins anew with so many configurations allowed at a position: one configuration at position 0, in `start`, by no step.
-pub(crate) fn open_rows<K: Kind>(s: &mut State<K::Value>, constants: &[u8], values: &[K::Value], cap: usize)
+pub(crate) fn open_rows<K: Kind>(
+    s: &mut State<K::Value>,
+    constants: &[u8],
+    values: &[K::Value],
+    cap: usize,
+)
     requires { ⌜ (every (λ r. ltb r 8) (now constants) ≡ true) × (length (now constants) ≡ length (now values)) × (1 ≤ cap) × (cap ≤ 64) × (40 * cap ≤ vec-len (now s .board))
         × (1 ≤ room-of (vec-items (now s .book .entries))) × Sized (now s .window) ⌝ }
     ensures fit { λ _. ⌜ Fit (now (s .exit)) ⌝ }

@@ -10,7 +10,8 @@ ghost use Rattle.topl.specs.Lists.{every};
 ghost use Rattle.topl.specs.Table.{is-lawful, empty-table};
 ghost use Rattle.engine.specs.Views.{sound};
 ghost use Rattle.engine.specs.Properties.{table};
-use crate::table::{Method, Statement};
+use crate::table::Method;
+use crate::table::Statement;
 use std::alloc::Global;
 
 // The declared methods, the registers of the constants in order of first appearance, and the written statements.

@@ -9,11 +9,18 @@ ghost use Rattle.topl.specs.Runs.{alikeᶜ};
 ghost use Rattle.engine.specs.Fronts.{configuration, row, stored, grid, Room, Arrives};
 use crate::book::Book;
 use crate::entry::Entry;
-use crate::front::{Arrival, Front, Way};
+use crate::front::Arrival;
+use crate::front::Front;
+use crate::front::Way;
 use kinds::kind::Kind;
 
 // Does a row hold a configuration, that is one of its state with registers of the same classes?
-pub(crate) fn find<K: Kind>(states: &[u8], values: &[K::Value], state: u8, registers: &[K::Value]) -> bool
+pub(crate) fn find<K: Kind>(
+    states: &[u8],
+    values: &[K::Value],
+    state: u8,
+    registers: &[K::Value],
+) -> bool
     requires { ⌜ (8 * length (now states) ≤ length (now values)) × (length (now registers) ≡ 8) ⌝ }
     ensures { λ r. ⌜ r ≡ holds alikeᶜ (row (K·Kind .class) (now (states .entry)) (now (values .entry))) (configuration (K·Kind .class) state (now (registers .entry))) ⌝ }
 {
@@ -63,7 +70,13 @@ fn write_configuration<V: Copy>(part: &mut [V], i: usize, registers: &[V])
 }
 
 // Writes the registers of configuration i of a position: the position's part of the board is lent on.
-pub(crate) fn put_configuration<V: Copy>(rows: &mut [V], cap: usize, slot: usize, i: usize, registers: &[V])
+pub(crate) fn put_configuration<V: Copy>(
+    rows: &mut [V],
+    cap: usize,
+    slot: usize,
+    i: usize,
+    registers: &[V],
+)
     requires { ⌜ (slot < 5) × (cap ≤ 64) × (length (now rows) ≡ 40 * cap) × (i < cap) × (length (now registers) ≡ 8) ⌝ }
     ensures { λ _. ⌜ now (rows .exit) ≡ stored (now (rows .entry)) (slot * (8 * cap) + 8 * i) (now (registers .entry)) ⌝ }
 {
@@ -88,7 +101,12 @@ pub(crate) fn arrive<K: Kind>(
         (grid (now (front .exit)) (now (rows .exit)) (vec-items (now (book .exit) .entries)) (now (book .exit) .used)) (way .slot) from (configuration (K·Kind .class) state (now (registers .entry))) r ⌝ }
 {
     let count = front.counts[way.slot];
-    if find::<K>(front.states_of(way.slot), part_of(rows, way.cap, way.slot), state, registers) {
+    if find::<K>(
+        front.states_of(way.slot),
+        part_of(rows, way.cap, way.slot),
+        state,
+        registers,
+    ) {
         return Arrival::Held;
     }
     if count >= way.cap {

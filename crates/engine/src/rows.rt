@@ -2,7 +2,7 @@
 ghost use mathlib.Core.Path.{_≡_};
 ghost use mathlib.Core.Bool.{true, false};
 ghost use mathlib.Core.List.{List, [], _∷_, _++_, map};
-ghost use Prim.Native.Nat.{ℕ, _+_, _*_, _≤_};
+ghost use Prim.Native.Nat.{ℕ, _+_, _*_, _<_, _≤_};
 ghost use lib.ListN.{length};
 ghost use Rattle.std.specs.Of.Vec.{vec-len, vec-items};
 ghost use Rattle.topl.specs.Table.{Event as Happening};
@@ -10,15 +10,17 @@ ghost use Rattle.topl.specs.Runs.{Registers, so-far, closing};
 ghost use Rattle.topl.specs.Ledger.{initial};
 ghost use Rattle.topl.specs.Theorems.{Steady, seen as shown};
 ghost use Rattle.engine.specs.declared.front.Ruling.the-variants.{GoesOn};
-ghost use Rattle.engine.specs.Trails.{room-of};
+ghost use Rattle.engine.specs.Trails.{room-of, steps-by, Written};
 ghost use Rattle.engine.specs.Fronts.{count-at, entries-at, Below};
 ghost use Rattle.engine.specs.Properties.{table as table-of};
 ghost use Rattle.engine.specs.States.{Follows, Comes-to, Stays};
 ghost use Rattle.engine.specs.Opening.{Opens};
-use crate::advance::{end_list, take_event};
+use crate::advance::end_list;
+use crate::advance::take_event;
 use crate::book::Book;
 use crate::entry::Entry;
-use crate::front::{Front, Ruling};
+use crate::front::Front;
+use crate::front::Ruling;
 use crate::open::open_rows;
 use crate::property::Table;
 use crate::state::State;
@@ -91,7 +93,13 @@ impl<K: Kind> Rows<K> {
     }
 
     // One event more after so many judged ones.
-    pub fn take_event(&mut self, table: &Table, judged: usize, id: u32, values: &[K::Value]) -> Ruling
+    pub fn take_event(
+        &mut self,
+        table: &Table,
+        judged: usize,
+        id: u32,
+        values: &[K::Value],
+    ) -> Ruling
         ensures stays { λ r. ⌜ Stays (now (self .entry) .state) (now (self .exit) .state) r ⌝ }
         ensures rules { λ r. ⌜ ((k : Registers) (L : List Happening)
             → Steady (table-of (vec-items (now (table .entry) .methods)) (vec-items (now (table .entry) .constants)) (vec-items (now (table .entry) .statements))) k (now (self .entry) .state .cap) (room-of (vec-items (now (self .entry) .state .book .entries))) L
@@ -100,7 +108,13 @@ impl<K: Kind> Rows<K> {
             → Comes-to (now (self .entry) .state) (now (self .exit) .state) (table-of (vec-items (now (table .entry) .methods)) (vec-items (now (table .entry) .constants)) (vec-items (now (table .entry) .statements))) k L (so-far (L ++ shown (K·Kind .class) id (now (values .entry)) ∷ [])) r
             × (r ≡ GoesOn → Follows (K·Kind .class) (now (self .exit) .state) (table-of (vec-items (now (table .entry) .methods)) (vec-items (now (table .entry) .constants)) (vec-items (now (table .entry) .statements))) k (L ++ shown (K·Kind .class) id (now (values .entry)) ∷ []))) ⌝ }
     {
-        take_event::<K>(&mut self.state, table.statements(), judged.min(MOST_EVENTS), id, values)
+        take_event::<K>(
+            &mut self.state,
+            table.statements(),
+            judged.min(MOST_EVENTS),
+            id,
+            values,
+        )
     }
 
     // The list has ended after so many judged events.
@@ -113,5 +127,22 @@ impl<K: Kind> Rows<K> {
             → Comes-to (now (self .entry) .state) (now (self .exit) .state) (table-of (vec-items (now (table .entry) .methods)) (vec-items (now (table .entry) .constants)) (vec-items (now (table .entry) .statements))) k L (closing L) r) ⌝ }
     {
         end_list::<K>(&mut self.state, table.statements(), judged.min(MOST_EVENTS))
+    }
+
+    // Writes the steps of a run into the front of a page and tells their count: those that lead to an entry of the book, and one more.
+    pub fn path(&self, from: Entry, page: &mut [u8]) -> Option<usize>
+        ensures { λ r. ⌜ Written (from .parent < now (self .entry) .state .book .used) (steps-by (vec-items (now (self .entry) .state .book .entries)) from) (now (page .entry)) (now (page .exit)) r ⌝ }
+    {
+        let parent = from.parent;
+        if parent as usize >= self.state.book.used {
+            return None;
+        }
+        let before = self.state.book.depth(parent);
+        if before >= page.len() {
+            return None;
+        }
+        self.state.book.write(parent, page);
+        page[before] = from.step;
+        Some(before + 1)
     }
 }

@@ -21,7 +21,12 @@ use crate::table::Statement;
 use kinds::kind::Kind;
 
 // What the events of the window come to, from position `base` on.
-pub(crate) fn settle<K: Kind>(s: &mut State<K::Value>, statements: &[Statement], closed: bool, base: usize) -> Ruling
+pub(crate) fn settle<K: Kind>(
+    s: &mut State<K::Value>,
+    statements: &[Statement],
+    closed: bool,
+    base: usize,
+) -> Ruling
     requires { ⌜ (every sound (now statements) ≡ true) × (length (now statements) ≤ 64) × Fit (now s) × (base ≤ 16384) ⌝ }
     ensures lasts { λ r. ⌜ Lasts (now (s .entry)) (now (s .exit)) r ⌝ }
     ensures decides { λ r. ⌜ ((P : TheTable) (k : Registers) (L : List Happening) (w : World) → P .statements ≡ map statement (now (statements .entry)) → w .mode ≡ mode-of closed
@@ -45,5 +50,15 @@ pub(crate) fn settle<K: Kind>(s: &mut State<K::Value>, statements: &[Statement],
         closed,
     };
     let rows = &mut s.board[0..places];
-    judge::<K>(&scene, base, last, cap, &mut s.held, &mut s.scratch, &mut s.front, rows, &mut s.book)
+    judge::<K>(
+        &scene,
+        base,
+        last,
+        cap,
+        &mut s.held,
+        &mut s.scratch,
+        &mut s.front,
+        rows,
+        &mut s.book,
+    )
 }

@@ -22,7 +22,11 @@ pub struct Window<V> {
 fn value_of<K: Kind>(values: &[K::Value], i: usize) -> K::Value
     ensures { λ r. ⌜ r ≡ getD (now (values .entry)) i (K·Kind .nothing) ⌝ }
 {
-    if i < values.len() { values[i] } else { K::nothing() }
+    if i < values.len() {
+        values[i]
+    } else {
+        K::nothing()
+    }
 }
 
 // What stands at place i of an event: 0 has the returned value, 1 to 5 the parameters.

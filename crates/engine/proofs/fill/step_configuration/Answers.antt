@@ -34,24 +34,26 @@ returns-in-Some-step-statement g c =
     let slot = c .args .way .slot in record {
       safe = safe-on cap slot G₀ G₁ G₃ (Some (c .in-Some-step-statement .entry)) (c .in-None .ensures tt .safe) (safe-on cap slot G₁ G₂ G₃ (Some (c .in-Some-step-statement .entry)) (c .loop-i .inv .0) (c .in-Some-step-statement .ensures tt .safe));
       brings = λ base P k w W r.
-        let d = configuration (g .K·Kind .class) (c .args .at .state) (c .args .held .now) in
-        let q = base + c .args .way .from in
-        let p = q + c .args .way .distance in
-        let n = length-numbered P (c .args .scene .now .statements .now) (W .statements) in
-        let l : c .loop-i .i < length (numbered P) = omega (arith, c .loop-i-test .taken) in
-        let t = getD (numbered P) (c .loop-i .i) (65, implied) in
-        let is = c .statement-at-t .ensures .is P (W .statements) in
-        let A = c .in-None .ensures tt .brings base P k w W r in
-        let m = c .in-None .ensures tt .safe .more in
-        let r₁ = subst (Reach P k w q d) (sym (A .1 .kept (c .args .at .entry) (c .pre .6))) r in
-        let B = c .loop-i .inv .1 base P k w W r₁ in
-        let r₂ = subst (Reach P k w q d) (sym (B .1 .kept (c .args .at .entry) (omega (arith, c .pre .6)))) r₁ in
-        let h = c .in-Some-step-statement .ensures tt .brings base P k w W (subst (λ z. z ∈ numbered P) is (getD-∈ (numbered P) (c .loop-i .i) (65, implied) l)) r₂ in
-        let h′ : any-error (landed p (lands w q d t)) ≡ true = ap (λ z. any-error (landed p (lands w q d z))) is ∙ h .0 in
-        let e : any-error (landed p (passing w q d (take (c .loop-i .i + 1) (numbered P)))) ≡ true =
-          ap any-error (passing-more w q d p (numbered P) (c .loop-i .i) l) ∙ error-late (landed p (passing w q d (take (c .loop-i .i) (numbered P)))) (landed p (lands w q d t)) h′ in
-        (ap any-error (landed-append w q d p (skips P w q d) (passing w q d (numbered P)))
-          ∙ error-late (landed p (skips P w q d)) (landed p (passing w q d (numbered P))) (passing-front w q d p (c .loop-i .i + 1) (numbered P) e), h .1);
+          let d = configuration (g .K·Kind .class) (c .args .at .state) (c .args .held .now) in
+          let q = base + c .args .way .from in
+          let p = q + c .args .way .distance in
+          let n = length-numbered P (c .args .scene .now .statements .now) (W .statements) in
+          let l : c .loop-i .i < length (numbered P) = omega (arith, c .loop-i-test .taken) in
+          let t = getD (numbered P) (c .loop-i .i) (65, implied) in
+          let is = c .statement-at-t .ensures .is P (W .statements) in
+          let A = c .in-None .ensures tt .brings base P k w W r in
+          let m = c .in-None .ensures tt .safe .more in
+          let r₁ = subst (Reach P k w q d) (sym (A .1 .kept (c .args .at .entry) (c .pre .6))) r in
+          let B = c .loop-i .inv .1 base P k w W r₁ in
+          let r₂ = subst (Reach P k w q d) (sym (B .1 .kept (c .args .at .entry) (omega (arith, c .pre .6)))) r₁ in
+          let h = c .in-Some-step-statement .ensures tt .brings base P k w W (subst (λ z. z ∈ numbered P) is (getD-∈ (numbered P) (c .loop-i .i) (65, implied) l)) r₂ in
+          let h′ : any-error (landed p (lands w q d t)) ≡ true = ap (λ z. any-error (landed p (lands w q d z))) is ∙ h .0 in
+          let e : any-error (landed p (passing w q d (take (c .loop-i .i + 1) (numbered P)))) ≡ true =
+          ap any-error (passing-more w q d p (numbered P) (c .loop-i .i) l) ∙ error-late (landed p (passing w q d (take (c .loop-i .i) (numbered P)))) (landed p (lands w q d t)) h′ in (
+            ap any-error (landed-append w q d p (skips P w q d) (passing w q d (numbered P)))
+                ∙ error-late (landed p (skips P w q d)) (landed p (passing w q d (numbered P))) (passing-front w q d p (c .loop-i .i + 1) (numbered P) e),
+            h .1,
+          );
     }
 
 pub loop-i-again : need.loop-i-again
@@ -67,20 +69,20 @@ loop-i-again g c =
     let slot = c .args .way .slot in (
       safe-on cap slot G₁ G₂ G₃ None (c .loop-i .inv .0) (c .in-None-step-statement .ensures tt .safe),
       λ base P k w W r₁.
-        let d = configuration class (c .args .at .state) (c .args .held .now) in
-        let q = base + c .args .way .from in
-        let p = q + c .args .way .distance in
-        let n = length-numbered P (c .args .scene .now .statements .now) (W .statements) in
-        let l : c .loop-i .i < length (numbered P) = omega (arith, c .loop-i-test .taken) in
-        let t = getD (numbered P) (c .loop-i .i) (65, implied) in
-        let is = c .statement-at-t .ensures .is P (W .statements) in
-        let m = c .in-None .ensures tt .safe .more in
-        let B = c .loop-i .inv .1 base P k w W r₁ in
-        let r₂ = subst (Reach P k w q d) (sym (B .1 .kept (c .args .at .entry) (omega (arith, c .pre .6)))) r₁ in
-        let h = c .in-None-step-statement .ensures tt .brings base P k w W (subst (λ z. z ∈ numbered P) is (getD-∈ (numbered P) (c .loop-i .i) (65, implied) l)) r₂ in
-        let h′ = subst (λ z. Brought class cap slot P k w p G₂ G₃ (landed p (lands w q d z)) None) (sym is) h in
-        subst (λ z. Brought class cap slot P k w p G₁ G₃ z None) (sym (passing-more w q d p (numbered P) (c .loop-i .i) l))
-        (brought-on class cap P k w p slot G₁ G₂ G₃ (landed p (passing w q d (take (c .loop-i .i) (numbered P)))) (landed p (lands w q d t)) None B h′),
+          let d = configuration class (c .args .at .state) (c .args .held .now) in
+          let q = base + c .args .way .from in
+          let p = q + c .args .way .distance in
+          let n = length-numbered P (c .args .scene .now .statements .now) (W .statements) in
+          let l : c .loop-i .i < length (numbered P) = omega (arith, c .loop-i-test .taken) in
+          let t = getD (numbered P) (c .loop-i .i) (65, implied) in
+          let is = c .statement-at-t .ensures .is P (W .statements) in
+          let m = c .in-None .ensures tt .safe .more in
+          let B = c .loop-i .inv .1 base P k w W r₁ in
+          let r₂ = subst (Reach P k w q d) (sym (B .1 .kept (c .args .at .entry) (omega (arith, c .pre .6)))) r₁ in
+          let h = c .in-None-step-statement .ensures tt .brings base P k w W (subst (λ z. z ∈ numbered P) is (getD-∈ (numbered P) (c .loop-i .i) (65, implied) l)) r₂ in
+          let h′ = subst (λ z. Brought class cap slot P k w p G₂ G₃ (landed p (lands w q d z)) None) (sym is) h in
+          subst (λ z. Brought class cap slot P k w p G₁ G₃ z None) (sym (passing-more w q d p (numbered P) (c .loop-i .i) l))
+          (brought-on class cap P k w p slot G₁ G₂ G₃ (landed p (passing w q d (take (c .loop-i .i) (numbered P)))) (landed p (lands w q d t)) None B h′),
     )
 
 pub returns : need.returns
@@ -96,14 +98,14 @@ returns g c =
     let slot = c .args .way .slot in record {
       safe = safe-on cap slot G₀ G₁ G₂ None (c .in-None .ensures tt .safe) (c .loop-i .inv .0);
       brings = λ base P k w W r.
-        let d = configuration class (c .args .at .state) (c .args .held .now) in
-        let q = base + c .args .way .from in
-        let p = q + c .args .way .distance in
-        let n = length-numbered P (c .args .scene .now .statements .now) (W .statements) in
-        let l : length (numbered P) ≤ c .loop-i .i = omega (arith, c .loop-i-test .left) in
-        let A = c .in-None .ensures tt .brings base P k w W r in
-        let r₁ = subst (Reach P k w q d) (sym (A .1 .kept (c .args .at .entry) (c .pre .6))) r in
-        let h = subst (λ z. Brought class cap slot P k w p G₁ G₂ (landed p (passing w q d z)) None) (take-all (c .loop-i .i) (numbered P) l) (c .loop-i .inv .1 base P k w W r₁) in
-        subst (λ z. Brought class cap slot P k w p G₀ G₂ z None) (sym (landed-append w q d p (skips P w q d) (passing w q d (numbered P))))
-        (brought-on class cap P k w p slot G₀ G₁ G₂ (landed p (skips P w q d)) (landed p (passing w q d (numbered P))) None A h);
+          let d = configuration class (c .args .at .state) (c .args .held .now) in
+          let q = base + c .args .way .from in
+          let p = q + c .args .way .distance in
+          let n = length-numbered P (c .args .scene .now .statements .now) (W .statements) in
+          let l : length (numbered P) ≤ c .loop-i .i = omega (arith, c .loop-i-test .left) in
+          let A = c .in-None .ensures tt .brings base P k w W r in
+          let r₁ = subst (Reach P k w q d) (sym (A .1 .kept (c .args .at .entry) (c .pre .6))) r in
+          let h = subst (λ z. Brought class cap slot P k w p G₁ G₂ (landed p (passing w q d z)) None) (take-all (c .loop-i .i) (numbered P) l) (c .loop-i .inv .1 base P k w W r₁) in
+          subst (λ z. Brought class cap slot P k w p G₀ G₂ z None) (sym (landed-append w q d p (skips P w q d) (passing w q d (numbered P))))
+          (brought-on class cap P k w p slot G₀ G₁ G₂ (landed p (skips P w q d)) (landed p (passing w q d (numbered P))) None A h);
     }

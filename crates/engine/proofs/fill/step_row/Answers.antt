@@ -43,17 +43,17 @@ returns-in-Some g c =
     let S = c .loop-i .inv .0 in record {
       safe = safe-on cap slot G₀ G₂ G₃ (Some (c .in-Some .entry)) S (c .in-Some .ensures tt .safe);
       brings = λ base P k w W T.
-        let q = base + c .args .way .from in
-        let p = q + c .args .way .distance in
-        let row = row-at class cap G₀ (c .args .source) in
-        let n = length-row-at class cap (c .args .source) G₀ (c .pre .6) (c .pre .5) in
-        let l : c .loop-i .i < length row = omega (arith, c .loop-i-test .taken) in
-        let B = c .loop-i .inv .1 base P k w W T in
-        let x = row-read class cap (c .args .source) (c .loop-i .i) G₀ G₂ (c .load .last .held) (first-configuration []) (c .pre .6) (c .pre .5) (S .room) (c .loop-i-test .taken) (B .1 .other (c .args .source) (c .pre .6) (c .pre .7)) (c .load .ensures) in
-        let s = entry-steps class cap (c .args .source) (c .loop-i .i) G₀ G₂ (c .pre .6) (c .pre .5) (S .room) (c .loop-i-test .taken) (S .spares (c .args .source) (c .pre .7)) (B .1 .kept) in
-        let r = subst (λ d. Reach P k w q d (steps-to (vec-items (b₂ .entries)) (getD (c .loop-i .front .entries) (64 * c .args .source + c .loop-i .i) 0))) (sym x) (subst (Reach P k w q (getD row (c .loop-i .i) (first-configuration []))) (sym s) (T (c .loop-i .i) (c .loop-i-test .taken))) in
-        let h = c .in-Some .ensures tt .brings base P k w W r in
-        (each-error (λ d. landed p (moves P w q d)) row (c .loop-i .i) (first-configuration []) l (ap (λ d. any-error (landed p (moves P w q d))) (sym x) ∙ h .0), h .1);
+          let q = base + c .args .way .from in
+          let p = q + c .args .way .distance in
+          let row = row-at class cap G₀ (c .args .source) in
+          let n = length-row-at class cap (c .args .source) G₀ (c .pre .6) (c .pre .5) in
+          let l : c .loop-i .i < length row = omega (arith, c .loop-i-test .taken) in
+          let B = c .loop-i .inv .1 base P k w W T in
+          let x = row-read class cap (c .args .source) (c .loop-i .i) G₀ G₂ (c .load .last .held) (first-configuration []) (c .pre .6) (c .pre .5) (S .room) (c .loop-i-test .taken) (B .1 .other (c .args .source) (c .pre .6) (c .pre .7)) (c .load .ensures) in
+          let s = entry-steps class cap (c .args .source) (c .loop-i .i) G₀ G₂ (c .pre .6) (c .pre .5) (S .room) (c .loop-i-test .taken) (S .spares (c .args .source) (c .pre .7)) (B .1 .kept) in
+          let r = subst (λ d. Reach P k w q d (steps-to (vec-items (b₂ .entries)) (getD (c .loop-i .front .entries) (64 * c .args .source + c .loop-i .i) 0))) (sym x) (subst (Reach P k w q (getD row (c .loop-i .i) (first-configuration []))) (sym s) (T (c .loop-i .i) (c .loop-i-test .taken))) in
+          let h = c .in-Some .ensures tt .brings base P k w W r in
+          (each-error (λ d. landed p (moves P w q d)) row (c .loop-i .i) (first-configuration []) l (ap (λ d. any-error (landed p (moves P w q d))) (sym x) ∙ h .0), h .1);
     }
 
 pub loop-i-again : need.loop-i-again
@@ -70,18 +70,18 @@ loop-i-again g c =
     let S = c .loop-i .inv .0 in (
       safe-on cap slot G₀ G₂ G₃ None S (c .in-None .ensures tt .safe),
       λ base P k w W T.
-        let q = base + c .args .way .from in
-        let p = q + c .args .way .distance in
-        let row = row-at class cap G₀ (c .args .source) in
-        let n = length-row-at class cap (c .args .source) G₀ (c .pre .6) (c .pre .5) in
-        let l : c .loop-i .i < length row = omega (arith, c .loop-i-test .taken) in
-        let B = c .loop-i .inv .1 base P k w W T in
-        let x = row-read class cap (c .args .source) (c .loop-i .i) G₀ G₂ (c .load .last .held) (first-configuration []) (c .pre .6) (c .pre .5) (S .room) (c .loop-i-test .taken) (B .1 .other (c .args .source) (c .pre .6) (c .pre .7)) (c .load .ensures) in
-        let s = entry-steps class cap (c .args .source) (c .loop-i .i) G₀ G₂ (c .pre .6) (c .pre .5) (S .room) (c .loop-i-test .taken) (S .spares (c .args .source) (c .pre .7)) (B .1 .kept) in
-        let r = subst (λ d. Reach P k w q d (steps-to (vec-items (b₂ .entries)) (getD (c .loop-i .front .entries) (64 * c .args .source + c .loop-i .i) 0))) (sym x) (subst (Reach P k w q (getD row (c .loop-i .i) (first-configuration []))) (sym s) (T (c .loop-i .i) (c .loop-i-test .taken))) in
-        let h = subst (λ d. Brought class cap slot P k w p G₂ G₃ (landed p (moves P w q d)) None) x (c .in-None .ensures tt .brings base P k w W r) in
-        subst (λ z. Brought class cap slot P k w p G₀ G₃ z None) (sym (each-more (λ d. landed p (moves P w q d)) row (c .loop-i .i) (first-configuration []) l))
-        (brought-on class cap P k w p slot G₀ G₂ G₃ (each (λ d. landed p (moves P w q d)) (take (c .loop-i .i) row)) (landed p (moves P w q (getD row (c .loop-i .i) (first-configuration [])))) None B h),
+          let q = base + c .args .way .from in
+          let p = q + c .args .way .distance in
+          let row = row-at class cap G₀ (c .args .source) in
+          let n = length-row-at class cap (c .args .source) G₀ (c .pre .6) (c .pre .5) in
+          let l : c .loop-i .i < length row = omega (arith, c .loop-i-test .taken) in
+          let B = c .loop-i .inv .1 base P k w W T in
+          let x = row-read class cap (c .args .source) (c .loop-i .i) G₀ G₂ (c .load .last .held) (first-configuration []) (c .pre .6) (c .pre .5) (S .room) (c .loop-i-test .taken) (B .1 .other (c .args .source) (c .pre .6) (c .pre .7)) (c .load .ensures) in
+          let s = entry-steps class cap (c .args .source) (c .loop-i .i) G₀ G₂ (c .pre .6) (c .pre .5) (S .room) (c .loop-i-test .taken) (S .spares (c .args .source) (c .pre .7)) (B .1 .kept) in
+          let r = subst (λ d. Reach P k w q d (steps-to (vec-items (b₂ .entries)) (getD (c .loop-i .front .entries) (64 * c .args .source + c .loop-i .i) 0))) (sym x) (subst (Reach P k w q (getD row (c .loop-i .i) (first-configuration []))) (sym s) (T (c .loop-i .i) (c .loop-i-test .taken))) in
+          let h = subst (λ d. Brought class cap slot P k w p G₂ G₃ (landed p (moves P w q d)) None) x (c .in-None .ensures tt .brings base P k w W r) in
+          subst (λ z. Brought class cap slot P k w p G₀ G₃ z None) (sym (each-more (λ d. landed p (moves P w q d)) row (c .loop-i .i) (first-configuration []) l))
+          (brought-on class cap P k w p slot G₀ G₂ G₃ (each (λ d. landed p (moves P w q d)) (take (c .loop-i .i) row)) (landed p (moves P w q (getD row (c .loop-i .i) (first-configuration [])))) None B h),
     )
 
 pub returns : need.returns
@@ -95,10 +95,10 @@ returns g c =
     let slot = c .args .way .slot in record {
       safe = c .loop-i .inv .0;
       brings = λ base P k w W T.
-        let q = base + c .args .way .from in
-        let p = q + c .args .way .distance in
-        let row = row-at class cap G₀ (c .args .source) in
-        let n = length-row-at class cap (c .args .source) G₀ (c .pre .6) (c .pre .5) in
-        let l : length row ≤ c .loop-i .i = omega (arith, c .loop-i-test .left) in
-        subst (λ z. Brought class cap slot P k w p G₀ G₂ (each (λ d. landed p (moves P w q d)) z) None) (take-all (c .loop-i .i) row l) (c .loop-i .inv .1 base P k w W T);
+          let q = base + c .args .way .from in
+          let p = q + c .args .way .distance in
+          let row = row-at class cap G₀ (c .args .source) in
+          let n = length-row-at class cap (c .args .source) G₀ (c .pre .6) (c .pre .5) in
+          let l : length row ≤ c .loop-i .i = omega (arith, c .loop-i-test .left) in
+          subst (λ z. Brought class cap slot P k w p G₀ G₂ (each (λ d. landed p (moves P w q d)) z) None) (take-all (c .loop-i .i) row l) (c .loop-i .inv .1 base P k w W T);
     }

@@ -19,4 +19,4 @@ Inv-loop-i g l =
     Brought (g .K·Kind .class) (l .way .cap) (l .way .slot) P k w (base + l .way .from + l .way .distance)
     (grid (l .entry .front) (l .entry .rows) (vec-items (l .entry .book .entries)) (l .entry .book .used)) (grid (l .front) (l .rows) (vec-items (l .book .entries)) (l .book .used))
     (each (λ c. landed (base + l .way .from + l .way .distance) (moves P w (base + l .way .from) c))
-      (take (l .i) (row-at (g .K·Kind .class) (l .way .cap) (grid (l .entry .front) (l .entry .rows) (vec-items (l .entry .book .entries)) (l .entry .book .used)) (l .source)))) None)
+    (take (l .i) (row-at (g .K·Kind .class) (l .way .cap) (grid (l .entry .front) (l .entry .rows) (vec-items (l .entry .book .entries)) (l .entry .book .used)) (l .source)))) None)

@@ -46,27 +46,27 @@ pub returns-in-Passes : need.returns-in-Passes
 returns-in-Passes g c = record {
   safe = c .land .ensures .safe;
   brings = λ base P k w W m r.
-    let class = g .K·Kind .class in
-    let b = c .args .book .now in
-    let b′ = c .land .last .book in
-    let G = grid (c .args .front .now) (c .args .rows .now) (vec-items (b .entries)) (b .used) in
-    let H = grid (c .land .last .front) (c .land .last .rows) (vec-items (b′ .entries)) (b′ .used) in
-    let cap = c .args .way .cap in
-    let slot = c .args .way .slot in
-    let t = c .args .t .now in
-    let T = statement (t .statement) in
-    let d = configuration class (c .args .at .state) (c .args .held .now) in
-    let q = base + c .args .way .from in
-    let p = q + c .args .way .distance in
-    let s = span-is (t .statement) (c .pre .7) in
-    let e = c .if-t-way .left in
-    let n : q + span T ≡ p = omega arith in
-    let regs = map class (c .attempt-statement .last .registers) in
-    let h = c .in-Passes .ensures tt (drop base (w .events)) (W .events) ∙ ap (λ z. fares (matchers T) (map class z) (drop (c .args .way .from) (drop base (w .events)))) (c .copy-from-slice .ensures .after) in
-    let move = onward r (pass (t .number, T) regs (m, c .if-t-at .left) (fared w base (c .args .way .from) d (t .number, T) T refl ∙ sym h)) in
-    let r′ = subst (λ (z : ℕ). Reach P k w z (record { state = T .target; registers = regs }) (steps-by (vec-items (b .entries)) (record { parent = c .args .at .entry; step = t .number }))) n move in
-    subst (λ z. Brought class cap slot P k w p G H z (c .land .result))
-    (sym (lands-passes w base (c .args .way .from) d (t .number, T) T refl p (c .if-t-at .left) n regs h)) (c .land .ensures .brings P k w p r′);
+      let class = g .K·Kind .class in
+      let b = c .args .book .now in
+      let b′ = c .land .last .book in
+      let G = grid (c .args .front .now) (c .args .rows .now) (vec-items (b .entries)) (b .used) in
+      let H = grid (c .land .last .front) (c .land .last .rows) (vec-items (b′ .entries)) (b′ .used) in
+      let cap = c .args .way .cap in
+      let slot = c .args .way .slot in
+      let t = c .args .t .now in
+      let T = statement (t .statement) in
+      let d = configuration class (c .args .at .state) (c .args .held .now) in
+      let q = base + c .args .way .from in
+      let p = q + c .args .way .distance in
+      let s = span-is (t .statement) (c .pre .7) in
+      let e = c .if-t-way .left in
+      let n : q + span T ≡ p = omega arith in
+      let regs = map class (c .attempt-statement .last .registers) in
+      let h = c .in-Passes .ensures tt (drop base (w .events)) (W .events) ∙ ap (λ z. fares (matchers T) (map class z) (drop (c .args .way .from) (drop base (w .events)))) (c .copy-from-slice .ensures .after) in
+      let move = onward r (pass (t .number, T) regs (m, c .if-t-at .left) (fared w base (c .args .way .from) d (t .number, T) T refl ∙ sym h)) in
+      let r′ = subst (λ (z : ℕ). Reach P k w z (record { state = T .target; registers = regs }) (steps-by (vec-items (b .entries)) (record { parent = c .args .at .entry; step = t .number }))) n move in
+      subst (λ z. Brought class cap slot P k w p G H z (c .land .result))
+      (sym (lands-passes w base (c .args .way .from) d (t .number, T) T refl p (c .if-t-at .left) n regs h)) (c .land .ensures .brings P k w p r′);
 }
 
 pub returns-in-Fails : need.returns-in-Fails
@@ -81,9 +81,9 @@ returns-in-Fails g c =
     let d = configuration class (c .args .at .state) (c .args .held .now) in record {
       safe = safe-none cap slot G (c .pre .5);
       brings = λ base P k w W m r.
-        let h = c .in-Fails .ensures tt (drop base (w .events)) (W .events) ∙ ap (λ z. fares (matchers T) (map class z) (drop (c .args .way .from) (drop base (w .events)))) (c .copy-from-slice .ensures .after) in
-        brought-none class cap P k w (base + c .args .way .from + c .args .way .distance) slot (c .pre .4) G (c .pre .5) _
-        (lands-fails w base (c .args .way .from) d (t .number, T) T refl (base + c .args .way .from + c .args .way .distance) h);
+          let h = c .in-Fails .ensures tt (drop base (w .events)) (W .events) ∙ ap (λ z. fares (matchers T) (map class z) (drop (c .args .way .from) (drop base (w .events)))) (c .copy-from-slice .ensures .after) in
+          brought-none class cap P k w (base + c .args .way .from + c .args .way .distance) slot (c .pre .4) G (c .pre .5) _
+          (lands-fails w base (c .args .way .from) d (t .number, T) T refl (base + c .args .way .from + c .args .way .distance) h);
     }
 
 pub returns-in-Hangs : need.returns-in-Hangs
@@ -98,7 +98,7 @@ returns-in-Hangs g c =
     let d = configuration class (c .args .at .state) (c .args .held .now) in record {
       safe = safe-none cap slot G (c .pre .5);
       brings = λ base P k w W m r.
-        let h = c .in-Hangs .ensures tt (drop base (w .events)) (W .events) ∙ ap (λ z. fares (matchers T) (map class z) (drop (c .args .way .from) (drop base (w .events)))) (c .copy-from-slice .ensures .after) in
-        brought-none class cap P k w (base + c .args .way .from + c .args .way .distance) slot (c .pre .4) G (c .pre .5) _
-        (lands-hangs w base (c .args .way .from) d (t .number, T) T refl (base + c .args .way .from + c .args .way .distance) h);
+          let h = c .in-Hangs .ensures tt (drop base (w .events)) (W .events) ∙ ap (λ z. fares (matchers T) (map class z) (drop (c .args .way .from) (drop base (w .events)))) (c .copy-from-slice .ensures .after) in
+          brought-none class cap P k w (base + c .args .way .from + c .args .way .distance) slot (c .pre .4) G (c .pre .5) _
+          (lands-hangs w base (c .args .way .from) d (t .number, T) T refl (base + c .args .way .from + c .args .way .distance) h);
     }

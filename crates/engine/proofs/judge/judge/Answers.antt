@@ -26,15 +26,15 @@ returns-in-rest g c =
       long = X .long ∙ c .loop-p .inv .1;
       known = λ p x e. X .known x (ap shown-entry e);
       decides = λ P k L w W S.
-        let class = g .K·Kind .class in
-        let p = c .loop-p .p in
-        let low : c .args .base ≤ p = c .loop-p .kept .p in
-        let high : p ≤ c .args .last = omega (arith, c .loop-p-test .taken) in
-        let A = c .loop-p .inv .2 P k L w W S in
-        let ready = along-ready class (c .args .cap) (c .args .base) (c .args .last) P k L w G₀ S (c .pre .6) p G₂ (c .loop-p .inv .1) (c .loop-p .inv .0) A low high in
-        let balance = along-balance class (c .args .cap) (c .args .base) (c .args .last) P k L w G₀ S (c .pre .6) p G₂ (c .loop-p .inv .1) (c .loop-p .inv .0) A low high in
-        let J = c .judge-position .ensures .rules P k L w W ready balance in
-        along-decides class (c .args .cap) (c .args .base) (c .args .last) P k L w G₀ S (c .pre .6) p G₂ (c .loop-p .inv .1) (c .loop-p .inv .0) A low high G₃ (c .judge-position .result) (shown-entry (c .judge-position .result)) X J (c .in-rest .not-GoesOn);
+          let class = g .K·Kind .class in
+          let p = c .loop-p .p in
+          let low : c .args .base ≤ p = c .loop-p .kept .p in
+          let high : p ≤ c .args .last = omega (arith, c .loop-p-test .taken) in
+          let A = c .loop-p .inv .2 P k L w W S in
+          let ready = along-ready class (c .args .cap) (c .args .base) (c .args .last) P k L w G₀ S (c .pre .6) p G₂ (c .loop-p .inv .1) (c .loop-p .inv .0) A low high in
+          let balance = along-balance class (c .args .cap) (c .args .base) (c .args .last) P k L w G₀ S (c .pre .6) p G₂ (c .loop-p .inv .1) (c .loop-p .inv .0) A low high in
+          let J = c .judge-position .ensures .rules P k L w W ready balance in
+          along-decides class (c .args .cap) (c .args .base) (c .args .last) P k L w G₀ S (c .pre .6) p G₂ (c .loop-p .inv .1) (c .loop-p .inv .0) A low high G₃ (c .judge-position .result) (shown-entry (c .judge-position .result)) X J (c .in-rest .not-GoesOn);
     }
 
 pub loop-p-again : need.loop-p-again
@@ -49,15 +49,15 @@ loop-p-again g c =
       X .room,
       X .long ∙ c .loop-p .inv .1,
       λ P k L w W S.
-        let class = g .K·Kind .class in
-        let p = c .loop-p .p in
-        let low : c .args .base ≤ p = c .loop-p .kept .p in
-        let high : p ≤ c .args .last = omega (arith, c .loop-p-test .taken) in
-        let A = c .loop-p .inv .2 P k L w W S in
-        let ready = along-ready class (c .args .cap) (c .args .base) (c .args .last) P k L w G₀ S (c .pre .6) p G₂ (c .loop-p .inv .1) (c .loop-p .inv .0) A low high in
-        let balance = along-balance class (c .args .cap) (c .args .base) (c .args .last) P k L w G₀ S (c .pre .6) p G₂ (c .loop-p .inv .1) (c .loop-p .inv .0) A low high in
-        let J = c .judge-position .ensures .rules P k L w W ready balance in
-        along-more class (c .args .cap) (c .args .base) (c .args .last) P k L w G₀ S (c .pre .6) p G₂ (c .loop-p .inv .1) (c .loop-p .inv .0) A low high G₃ (c .judge-position .result) (shown-entry (c .judge-position .result)) X J (c .in-GoesOn .is),
+          let class = g .K·Kind .class in
+          let p = c .loop-p .p in
+          let low : c .args .base ≤ p = c .loop-p .kept .p in
+          let high : p ≤ c .args .last = omega (arith, c .loop-p-test .taken) in
+          let A = c .loop-p .inv .2 P k L w W S in
+          let ready = along-ready class (c .args .cap) (c .args .base) (c .args .last) P k L w G₀ S (c .pre .6) p G₂ (c .loop-p .inv .1) (c .loop-p .inv .0) A low high in
+          let balance = along-balance class (c .args .cap) (c .args .base) (c .args .last) P k L w G₀ S (c .pre .6) p G₂ (c .loop-p .inv .1) (c .loop-p .inv .0) A low high in
+          let J = c .judge-position .ensures .rules P k L w W ready balance in
+          along-more class (c .args .cap) (c .args .base) (c .args .last) P k L w G₀ S (c .pre .6) p G₂ (c .loop-p .inv .1) (c .loop-p .inv .0) A low high G₃ (c .judge-position .result) (shown-entry (c .judge-position .result)) X J (c .in-GoesOn .is),
     )
 
 pub returns : need.returns
@@ -70,6 +70,6 @@ returns g c =
       long = c .loop-p .inv .1;
       known = λ p x e. absurd (let z : _≡_ {A = ℕ} 0 1 = cc in omega arith);
       decides = λ P k L w W S.
-        let e : c .loop-p .p ≡ suc (c .args .last) = omega arith in
-        along-end (g .K·Kind .class) (c .args .cap) (c .args .base) (c .args .last) P k L w G₀ S (c .pre .6) (c .loop-p .p) G₂ (c .loop-p .inv .2 P k L w W S) e;
+          let e : c .loop-p .p ≡ suc (c .args .last) = omega arith in
+          along-end (g .K·Kind .class) (c .args .cap) (c .args .base) (c .args .last) P k L w G₀ S (c .pre .6) (c .loop-p .p) G₂ (c .loop-p .inv .2 P k L w W S) e;
     }

@@ -38,16 +38,16 @@ returns g c =
       board = refl;
       book = ap vec-items (c .begin .ensures .entries);
       follows = λ P e.
-        let k = initial P (map class (c .args .values .now)) in
-        let is : map class registers ≡ k = c .start-registers-registers .ensures .are ∙ ap (λ z. sets (replicate 8 []) z (map class (c .args .values .now))) (sym e) in
-        let h₀ = opened-held class cap F G rows registers es (b .used) (c .new-s .ensures) (c .add .ensures) (c .pre .3) (c .pre .2) long eight one P k is in
-        let h₁ = subst (λ z. Held class cap (grid G z es (b .used)) P k (so-far []) 0) (sym (front ∙ w)) h₀ in
-        let t₀ = opened-tracked class cap F G rows registers es (b .used) (c .new-s .ensures) (c .add .ensures) (c .pre .3) (c .pre .2) long eight one P k is in
-        let t₁ = subst (λ z. Tracked class cap P k (so-far []) 0 (grid G z es (b .used)) 0) (sym (front ∙ w)) t₀ in
-        let n = opened-total class cap F G rows registers es (b .used) (c .new-s .ensures) (c .add .ensures) (c .pre .3) (c .pre .2) long eight one P k is in record {
-          held = λ q l m. let z : 0 ≡ q = omega arith in only-held class cap (grid G _ es (b .used)) P k q z h₁;
-          tracked = λ q l m. let z : 0 ≡ q = omega arith in only-tracked class cap (grid G _ es (b .used)) P k q z t₁;
-          total = omega arith;
-          window = (refl, λ j l. absurd (omega arith));
-        };
+          let k = initial P (map class (c .args .values .now)) in
+          let is : map class registers ≡ k = c .start-registers-registers .ensures .are ∙ ap (λ z. sets (replicate 8 []) z (map class (c .args .values .now))) (sym e) in
+          let h₀ = opened-held class cap F G rows registers es (b .used) (c .new-s .ensures) (c .add .ensures) (c .pre .3) (c .pre .2) long eight one P k is in
+          let h₁ = subst (λ z. Held class cap (grid G z es (b .used)) P k (so-far []) 0) (sym (front ∙ w)) h₀ in
+          let t₀ = opened-tracked class cap F G rows registers es (b .used) (c .new-s .ensures) (c .add .ensures) (c .pre .3) (c .pre .2) long eight one P k is in
+          let t₁ = subst (λ z. Tracked class cap P k (so-far []) 0 (grid G z es (b .used)) 0) (sym (front ∙ w)) t₀ in
+          let n = opened-total class cap F G rows registers es (b .used) (c .new-s .ensures) (c .add .ensures) (c .pre .3) (c .pre .2) long eight one P k is in record {
+            held = λ q l m. let z : 0 ≡ q = omega arith in only-held class cap (grid G _ es (b .used)) P k q z h₁;
+            tracked = λ q l m. let z : 0 ≡ q = omega arith in only-tracked class cap (grid G _ es (b .used)) P k q z t₁;
+            total = omega arith;
+            window = (refl, λ j l. absurd (omega arith));
+          };
     }

@@ -16,7 +16,7 @@ judge-requires g c κs =
     let s = c .args .s .now in
     let F = c .pre .2 in
     let rows : take (40 * s .cap - 0) (c .deref-mut .result .now) ≡ take (40 * s .cap) (vec-items (s .board)) =
-      ap (λ (z : ℕ). take z (c .deref-mut .result .now)) (let z : 40 * s .cap - 0 ≡ 40 * s .cap = omega arith in z) ∙ ap (take (40 * s .cap)) (c .deref-mut .ensures .value) in
+    ap (λ (z : ℕ). take z (c .deref-mut .result .now)) (let z : 40 * s .cap - 0 ≡ 40 * s .cap = omega arith in z) ∙ ap (take (40 * s .cap)) (c .deref-mut .ensures .value) in
     let a = length-take-le (s .window .seen - 0) (s .window .ids) (omega (arith, F .0, F .1 .0)) in
     let b = length-take-le (6 * s .window .seen - 0) (s .window .places) (omega (arith, F .0, F .1 .1)) in (
       (c .pre .0, c .pre .1, omega arith),
@@ -45,14 +45,14 @@ returns g c =
         known = c .judge .ensures .known;
       };
       decides = λ P k L w e m R S.
-        let rows : take (40 * s .cap - 0) (c .deref-mut .result .now) ≡ take (40 * s .cap) (vec-items (s .board)) =
+          let rows : take (40 * s .cap - 0) (c .deref-mut .result .now) ≡ take (40 * s .cap) (vec-items (s .board)) =
           ap (λ (z : ℕ). take z (c .deref-mut .result .now)) (let z : 40 * s .cap - 0 ≡ 40 * s .cap = omega arith in z) ∙ ap (take (40 * s .cap)) (c .deref-mut .ensures .value) in
-        let a : s .window .seen ≡ s .window .seen - 0 = omega arith in
-        let b : 6 * s .window .seen ≡ 6 * s .window .seen - 0 = omega arith in
-        let R₁ = subst (λ (z : ℕ). Seen class (take z (s .window .ids)) (take (6 * s .window .seen) (s .window .places)) (drop (c .args .base) (w .events))) a R in
-        let R₂ = subst (λ (z : ℕ). Seen class (take (s .window .seen - 0) (s .window .ids)) (take z (s .window .places)) (drop (c .args .base) (w .events))) b R₁ in
-        let S₁ = subst (λ z. Start class (s .cap) (grid (s .front) z (vec-items (s .book .entries)) (s .book .used)) (c .args .base) (c .args .base + s .window .seen) P k L w) (sym rows) S in
-        let h = c .judge .ensures .decides P k L w (record { statements = e; mode = m; events = R₂ }) S₁ in
-        let h₁ = subst (λ z. Decided class (s .cap) (grid (s .front) z (vec-items (s .book .entries)) (s .book .used)) (grid (c .judge .last .front) (c .judge .last .rows) (vec-items (b₃ .entries)) (b₃ .used)) (c .args .base) (c .args .base + s .window .seen) P k L w (c .judge .result)) rows h in
-        subst (λ z. Decided class (s .cap) (grid (s .front) (take (40 * s .cap) (vec-items (s .board))) (vec-items (s .book .entries)) (s .book .used)) (grid (c .judge .last .front) z (vec-items (b₃ .entries)) (b₃ .used)) (c .args .base) (c .args .base + s .window .seen) P k L w (c .judge .result)) (sym front) h₁;
+          let a : s .window .seen ≡ s .window .seen - 0 = omega arith in
+          let b : 6 * s .window .seen ≡ 6 * s .window .seen - 0 = omega arith in
+          let R₁ = subst (λ (z : ℕ). Seen class (take z (s .window .ids)) (take (6 * s .window .seen) (s .window .places)) (drop (c .args .base) (w .events))) a R in
+          let R₂ = subst (λ (z : ℕ). Seen class (take (s .window .seen - 0) (s .window .ids)) (take z (s .window .places)) (drop (c .args .base) (w .events))) b R₁ in
+          let S₁ = subst (λ z. Start class (s .cap) (grid (s .front) z (vec-items (s .book .entries)) (s .book .used)) (c .args .base) (c .args .base + s .window .seen) P k L w) (sym rows) S in
+          let h = c .judge .ensures .decides P k L w (record { statements = e; mode = m; events = R₂ }) S₁ in
+          let h₁ = subst (λ z. Decided class (s .cap) (grid (s .front) z (vec-items (s .book .entries)) (s .book .used)) (grid (c .judge .last .front) (c .judge .last .rows) (vec-items (b₃ .entries)) (b₃ .used)) (c .args .base) (c .args .base + s .window .seen) P k L w (c .judge .result)) rows h in
+          subst (λ z. Decided class (s .cap) (grid (s .front) (take (40 * s .cap) (vec-items (s .board))) (vec-items (s .book .entries)) (s .book .used)) (grid (c .judge .last .front) z (vec-items (b₃ .entries)) (b₃ .used)) (c .args .base) (c .args .base + s .window .seen) P k L w (c .judge .result)) (sym front) h₁;
     }

@@ -3,7 +3,6 @@ use native.Mathlib.Omega.{arith}
 use mathlib.Core.Path.{_≡_, refl, sym, _∙_, ap}
 use mathlib.Core.List.{List, [], _∷_, _++_, append-nil}
 use lib.ListN.{length, take, drop, length-append, take-append-drop}
-
 use Rattle.std.specs.Of.Vec.{vec-items}
 use Rattle.engine.specs.Trails.{steps-to}
 use Rattle.engine.proofs.Trails.{steps-none, steps-some, read-link, read-low, read-steps, fill-back, filled-page}

@@ -11,7 +11,7 @@ abbrev pub Inv-loop-at : given.InvT-loop-at
 Inv-loop-at l =
     (0 < l .at → l .at < l .self .used) × (l .left ≡ length (steps-to (vec-items (l .self .entries)) (l .at)))
     × ((done : List ℕ) × (steps-to (vec-items (l .self .entries)) (l .entry .at) ≡ steps-to (vec-items (l .self .entries)) (l .at) ++ done)
-        × (l .page ≡ take (l .left) (l .entry .page) ++ (done ++ drop (length (steps-to (vec-items (l .self .entries)) (l .entry .at))) (l .entry .page))))
+    × (l .page ≡ take (l .left) (l .entry .page) ++ (done ++ drop (length (steps-to (vec-items (l .self .entries)) (l .entry .at))) (l .entry .page))))
 
 abbrev pub μ-loop-at : given.MeasureT-loop-at
 μ-loop-at l = l .at
