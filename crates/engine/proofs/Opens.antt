@@ -18,7 +18,7 @@ use Rattle.engine.specs.declared.entry.Entry.{Entry}
 use Rattle.engine.specs.declared.front.Front.{Front}
 use Rattle.engine.specs.declared.state.State.{State}
 use Rattle.engine.specs.Trails.{steps-to}
-use Rattle.engine.specs.Fronts.{configuration, row, row-at, count-at, states-at, entries-at, Added, Bare, Grid, grid, Room}
+use Rattle.engine.specs.Fronts.{configuration, row, row-at, count-at, states-at, entries-at, Added, Bare, Below, Grid, grid, Room}
 use Rattle.engine.specs.Fills.{Tracked}
 use Rattle.engine.specs.Judging.{Held}
 use Rattle.engine.specs.States.{grid-of, Follows}
@@ -106,3 +106,7 @@ only-held class cap g P k q e h = subst (λ (x : ℕ). Held class cap g P k (so-
 
 pub only-tracked : {V : Type 0} (class : V → Class) (cap : ℕ) (g : Grid V) (P : T.Table) (k : Registers) (q : ℕ) → 0 ≡ q → Tracked class cap P k (so-far []) 0 g 0 → Tracked class cap P k (so-far []) q g (q % 5)
 only-tracked class cap g P k q e h = subst (λ (x : ℕ). Tracked class cap P k (so-far []) x g (x % 5)) e h
+
+-- no entry is in use at a bare front
+pub bare-below : (F : Front) → Bare F → (used k : ℕ) → Below used (entries-at F k)
+bare-below F B used k i l = let z : length (entries-at F k) ≡ 0 = ap (λ (n : ℕ). length (take n (drop (64 * k) (F .entries)))) (B .2 k) in absurd (omega arith)

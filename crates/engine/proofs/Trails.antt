@@ -150,3 +150,10 @@ module _ (es : List Entry) (used : ℕ) (x : Entry) (linked : Linked es used) (r
 -- no room for it
 pub unentered : (es : List Entry) (used : ℕ) (x : Entry) → x .parent < used → room-of es ≤ used → Enters es used x es used (x .parent)
 unentered es used x known full = record { known = known; more = omega arith; long = refl; old = λ k h. refl; new = λ l. absurd (omega (arith, l, full)) }
+
+-- the steps to an entry and one more, in the front of a page
+pub page-written : (ss page after : List ℕ) (v n : ℕ) → n ≡ length ss → n < length page → after ≡ ss ++ drop (length ss) page →
+    (n + 1 ≡ length (ss ++ (v ∷ []))) × (set after n v ≡ (ss ++ (v ∷ [])) ++ drop (length (ss ++ (v ∷ []))) page)
+page-written ss page after v n e l h =
+    let m : length (ss ++ (v ∷ [])) ≡ suc (length ss) = (let z = length-append ss (v ∷ []) in omega arith) in
+    (omega arith, ap (λ z. set z n v) h ∙ ap (λ (z : ℕ). set (ss ++ drop (length ss) page) z v) e ∙ set-front ss page v (omega arith) ∙ ap (λ (z : ℕ). (ss ++ (v ∷ [])) ++ drop z page) (sym m))

@@ -6,3 +6,4 @@ pub mod Properties
 pub mod Judging
 pub mod Windows
 pub mod States
+pub mod Opening

@@ -2,7 +2,9 @@
 use Prim.Native.Nat.{ℕ, zero, suc, _+_, _<_, _≤_, min}
 use mathlib.Core.Path.{_≡_}
 use mathlib.Core.List.{List, [], _∷_, _++_}
-use lib.ListN.{getD, length}
+use lib.ListN.{getD, length, drop}
+use Rattle.std.specs.declared.option.Option.{Option}
+use Rattle.std.specs.declared.option.Option.the-variants.{Some, None}
 use Rattle.engine.specs.declared.entry.Entry.{Entry}
 
 abbrev pub entry-at : List Entry → ℕ → Entry
@@ -38,3 +40,8 @@ pub record Enters (es : List Entry) (used : ℕ) (x : Entry) (fs : List Entry) (
   pub long : length fs ≡ length es
   pub old : (k : ℕ) → k < used → steps-to fs k ≡ steps-to es k
   pub new : used < room-of es → (used′ ≡ used + 1) × (steps-to fs n ≡ steps-by es x)
+
+-- What a page holds once some steps were to be written: the steps and the rest of it; or it stays, since it is shorter or the steps are not known.
+abbrev pub Written : Type 0 → List ℕ → List ℕ → List ℕ → Option ℕ → Type 0
+Written Known steps page after (Some n) = (n ≡ length steps) × (after ≡ steps ++ drop (length steps) page)
+Written Known steps page after None = (after ≡ page) × (Known → length page < length steps)

@@ -9,6 +9,7 @@ pub mod judge;
 pub mod open;
 pub mod property;
 pub mod row;
+pub mod rows;
 pub mod scene;
 pub mod settle;
 pub mod state;

@@ -1,0 +1,2 @@
+// The calls of a watch.
+pub mod reasons;
