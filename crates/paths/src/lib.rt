@@ -116,7 +116,7 @@ fn widen(statements: &[Statement], x: usize, seen: &mut [bool]) -> bool
 }
 
 // The states that a path of statements reaches with no write of a register.
-pub fn unwritten(statements: &[Statement], x: usize) -> [bool; 17]
+pub(crate) fn unwritten(statements: &[Statement], x: usize) -> [bool; 17]
     ensures { λ r. ⌜ ((q : ℕ) → Decides (getD r q false) (Unwritten (now (statements .entry)) x q)) ⌝ }
 {
     let mut seen = [false; 17];
@@ -236,7 +236,7 @@ fn first_flagged(statements: &[Statement], x: usize, seen: &[bool]) -> Option<us
 }
 
 // The least place at which a register is read that some path of statements has not written by then.
-pub fn first_read(statements: &[Statement], x: usize) -> Option<usize>
+pub(crate) fn first_read(statements: &[Statement], x: usize) -> Option<usize>
     ensures { λ r. ⌜ First-open (now (statements .entry)) x r ⌝ }
 {
     let seen = unwritten(statements, x);
@@ -244,7 +244,7 @@ pub fn first_read(statements: &[Statement], x: usize) -> Option<usize>
 }
 
 // The least place at which a variable is read that some path of statements has not written by then.
-pub fn unwritten_read(statements: &[Statement], registers: &[Register]) -> Option<usize>
+pub(crate) fn unwritten_read(statements: &[Statement], registers: &[Register]) -> Option<usize>
     ensures { λ r. ⌜ First-of (now (statements .entry)) (now (registers .entry)) (length (now (registers .entry))) r ⌝ }
 {
     let mut best = None;
