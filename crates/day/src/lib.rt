@@ -1,4 +1,6 @@
 // A whole day by one call: what a program prints of it.
+#![tactic(auto)]
+
 pub mod listing;
 pub mod methods;
 mod page;

@@ -1,4 +1,6 @@
 // Prints what a journal on standard input holds, event by event; words on the command line choose the methods.
+#![tactic(auto)]
+
 use anyhow::anyhow;
 use day::listing::listing;
 use day::methods::method_named;

@@ -1,4 +1,6 @@
 // What a watch keeps of the runs: rows of configurations and a book of steps, and how an event or the end of the list changes them.
+#![tactic(auto)]
+
 pub mod advance;
 pub mod attempt;
 pub mod book;

@@ -1,4 +1,6 @@
 // Values of a heating hub's journal: how they are refused, read from bytes, and compared.
+#![tactic(auto)]
+
 pub mod cases;
 pub mod kind;
 pub mod label;

@@ -3,6 +3,7 @@ use Rattle.std.specs.Prelude.{◌≡◌, ℕ, ◌+◌, ◌<◌, ◌≤◌, ◌�
 use Rattle.std.specs.VecDeque.{deque_items, deque_len}
 use Rattle.std.specs.List.{remove}
 use Rattle.std.specs.declared.collections.VecDeque.{VecDeque}
+use Rattle.kinds.specs.declared.kind.Kind.{Ghosts}
 use Rattle.kinds.specs.declared.refusal.Layer.TheVariants.{Mailbox as mailbox}
 use Rattle.kinds.specs.declared.refusal.Reason.{Reason}
 use Rattle.kinds.specs.declared.refusal.Reason.TheVariants.{NoRoom}
@@ -15,11 +16,11 @@ use Rattle.sources.specs.declared.event.Event.{Event}
 use Rattle.mailbox.specs.declared.held.Mailbox.{Mailbox}
 
 -- The events that wait in a mailbox.
-abbrev pub waits : {K V : Type 0} → Mailbox K V → List (Happening V)
+abbrev pub waits : {K V : Type 0} {G : Ghosts K V} → Mailbox K V G → List (Happening V)
 waits m = map says (deque_items m.queue)
 
 -- How many events a mailbox can hold.
-abbrev pub places : {K V : Type 0} → Mailbox K V → ℕ
+abbrev pub places : {K V : Type 0} {G : Ghosts K V} → Mailbox K V G → ℕ
 places m = m.room
 
 -- Why an event is not put: 4 or 5 where there is no such event, and then 50 where every place is taken.

@@ -1,2 +1,4 @@
 // A mailbox: events in the order in which they were put.
+#![tactic(auto)]
+
 pub mod held;

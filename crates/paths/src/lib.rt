@@ -1,4 +1,6 @@
 // Paths of statements, the reads that one reaches unwritten, and the reading of a property text whole.
+#![tactic(auto)]
+
 ghost use Rattle.std.specs.Prelude.{◌≡◌, ℕ, ◌<◌, ◌≤◌, Bool, true, false, [], length, get_or, if◌then◌else◌, Some, None, Decides, MatchBool, slice_index_or};
 ghost use Rattle.paths.specs.Paths.{Unwritten, Sound, Closed, unset, slot_writes, event_writes, statement_writes, fewer as least_of, state as state_of};
 ghost use Rattle.paths.specs.Paths.{slots_of, events_of};

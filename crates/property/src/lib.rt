@@ -1,4 +1,6 @@
 // A property: the table of its methods, states, registers and statements, and the reader of its text.
+#![tactic(auto)]
+
 pub mod cursor;
 pub mod draft;
 mod flaws;

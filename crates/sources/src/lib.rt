@@ -1,4 +1,6 @@
 // Events of a heating hub and where they come from.
+#![tactic(auto)]
+
 pub mod drain;
 pub mod event;
 pub mod journal;

@@ -1,4 +1,6 @@
 // The theory of the watch: automata, runs, the deciding rule and the ledger. Each function is a theorem, which its contract states.
+#![tactic(auto)]
+
 ghost use Rattle.topl.specs.Theorems.{Bounded, Certain, Enumerates, FewSteps, Finding, Gains, LabelsJoin, LargerRulesAlike, Needs, Persists, PlacesAgree, Recognizes, Replays, RuleInWords, Stepping, Tested, Verdicts, Watching};
 ghost use Rattle.topl.specs.History.{Answered, BooksCount, Determined, DrawsTakeOne, JudgesEachOnce, OneRun, Refusing, Ruled, StaysSound, Telling, TellingOn};
 ghost use Rattle.topl.specs.Days.{TellsOf, Worked, stale_end};

@@ -1,6 +1,6 @@
 -- When a watch shows a ledger.
 use Rattle.std.specs.Prelude.{◌≡◌, ◌<◌, List, map, length, Some, None, vec_items, vec_len, Option}
-use Rattle.std.specs.Borrow.{Bor, MutBor}
+use Rattle.std.specs.Borrow.{Bor, Bor}
 use Rattle.kinds.specs.declared.phase.Phase.TheVariants.{Running, Broken}
 use Rattle.kinds.specs.declared.refusal.Ending.{Ending}
 use Rattle.topl.specs.Lists.{Class}
@@ -23,7 +23,7 @@ Lends (Some x) P = P ≡ meant x.now
 
 -- The watch shows the ledger: they agree in phase, judged count, position and the lengths of board and book, and the ledger is sound; while it runs the
 -- ledger's table is the lent one and the rows follow the judged events; once it is broken the book has the steps of the shown run.
-pub record Shows {V : Type 0} (class : V → Class) (table : Option (MutBor Table)) (s : State V) (h : Held) (l : Ledger) : Type 0 where
+pub record Shows {V : Type 0} (class : V → Class) (table : Option (Bor Table)) (s : State V) (h : Held) (l : Ledger) : Type 0 where
   pub phase : h.phase ≡ l.phase
   pub count : h.judged ≡ length l.judged
   pub position : h.position ≡ l.position

@@ -1,4 +1,6 @@
 // The watch and its calls.
+#![tactic(auto)]
+
 pub mod held;
 pub mod reasons;
 pub mod standing;

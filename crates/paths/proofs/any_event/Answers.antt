@@ -5,14 +5,14 @@ use Rattle.property.specs.declared.table.Event.{Event}
 use Rattle.property.proofs.Searching.{some_more, some_here, some_all, map_same}
 use Rattle.paths.proofs.any_event.Goals as goal
 
-pub returns-then-event-written : goal.returns-then-event-written
-returns-then-event-written c =
-    some_here (λ (s : Event). s) (event_writes c.args.x) c.args.events.now c.loop-e.e-index _ c.loop-e-test.true c.loop-e.invariant (sym c.event-written.ensures ∙ c.if-event-written.true)
+pub returns-then-event_written : goal.returns-then-event_written
+returns-then-event_written c =
+    some_here (λ (s : Event). s) (event_writes c.args.x) c.args.events.now c.loop-e.e-index _ c.loop-e-test.true c.loop-e.invariant (sym c.event_written.ensures ∙ c.if-event_written.true)
     ∙ ap (some (event_writes c.args.x)) (map_same c.args.events.now)
 
 pub loop-e-preserved : goal.loop-e-preserved
 loop-e-preserved c =
-    some_more (λ (s : Event). s) (event_writes c.args.x) c.args.events.now c.loop-e.e-index _ c.loop-e-test.true c.loop-e.invariant (sym c.event-written.ensures ∙ c.if-event-written.false)
+    some_more (λ (s : Event). s) (event_writes c.args.x) c.args.events.now c.loop-e.e-index _ c.loop-e-test.true c.loop-e.invariant (sym c.event_written.ensures ∙ c.if-event_written.false)
 
 pub returns : goal.returns
 returns c =

@@ -12,7 +12,7 @@ loop-s-preserved c =
     let i = c.loop-s.s-index in
     let o = c.loop-s.best in
     let d : Statement = record { source = 0; target = 0; events = []; span = 0 } in
-    subst (SoFar (flagged f x) ss (i + 1)) (sym (c.lesser-best.ensures ∙ ap (lesser o) c.first-if.ensures))
+    subst (SoFar (flagged f x) ss (i + 1)) (sym (c.lesser-best.ensures ∙ ap (lesser o) c.first_if.ensures))
     (least_more (flagged f x) ss i d o _ c.loop-s-test.true c.loop-s.invariant (statement_step f x (get_or ss i d) (drop (i + 1) ss)))
 
 pub returns : goal.returns

@@ -9,7 +9,7 @@ loop-s-preserved c =
     let ss = c.args.slots.now in
     let i = c.loop-s.s-index in
     let o = c.loop-s.best in
-    subst (SoFar (reads_in x) ss (i + 1)) (sym (c.lesser-best.ensures ∙ ap (lesser o) c.read-place.ensures))
+    subst (SoFar (reads_in x) ss (i + 1)) (sym (c.lesser-best.ensures ∙ ap (lesser o) c.read_place.ensures))
     (least_more (reads_in x) ss i _ o _ c.loop-s-test.true c.loop-s.invariant (slot_step x _ (drop (i + 1) ss)))
 
 pub returns : goal.returns

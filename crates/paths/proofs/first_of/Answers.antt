@@ -6,4 +6,4 @@ pub returns : goal.returns
 returns c =
     let n = c.fewer-n.result in
     let z : n - 0 ≡ n = omega arith in
-    c.first-exposed.ensures ∙ ap (λ (k : ℕ). least (exposed c.args.x (take k c.args.statement.events))) (z ∙ c.fewer-n.ensures)
+    c.first_exposed.ensures ∙ ap (λ (k : ℕ). least (exposed c.args.x (take k c.args.statement.events))) (z ∙ c.fewer-n.ensures)

@@ -14,7 +14,7 @@ loop-x-preserved c =
     elim c.if-not-g.branch [
       | then-not-g w ↦
           subst (FirstOf ss gs (i + 1)) (sym (w.best-is ∙ w.lesser-best.ensures))
-          (variable_more ss gs i c.loop-x.best w.first-read.result (held ss gs i d c.loop-x-test.true w.if-not-g.true) c.loop-x.invariant w.first-read.ensures)
+          (variable_more ss gs i c.loop-x.best w.first_read.result (held ss gs i d c.loop-x-test.true w.if-not-g.true) c.loop-x.invariant w.first_read.ensures)
       | else-not-g w ↦
           subst (FirstOf ss gs (i + 1)) (sym w.best-is) (constant_more ss gs i c.loop-x.best d c.loop-x-test.true w.if-not-g.false c.loop-x.invariant)
     ]

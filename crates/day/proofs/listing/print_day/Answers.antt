@@ -9,4 +9,4 @@ returns g c =
     let events = c.args.day.now.events in
     let many : c.len.result ≡ length (map says (vec_items events)) = c.len.ensures ∙ events.ok.0 ∙ sym (length-map (vec_items events) says) in
     let items = c.deref.ensures.value in
-    also (then c.in-ok-print-kind.ensures (then c.in-ok-print-events.ensures c.print-ending.ensures)) (cc)
+    also (then c.in_ok-print_kind.ensures (then c.in_ok-print_events.ensures c.print_ending.ensures)) (cc)

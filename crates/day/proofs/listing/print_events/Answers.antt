@@ -13,7 +13,7 @@ loop-event-preserved g c =
     let h : i < length es = omega arith in
     let e = c.event-item.result in
     let step = drop_more es i e h ∙ ap (λ x. x ∷ drop (i + 1) es) (sym c.event-item.is) in
-    left_less (lines_of shown (map says (drop (i + 1) es))) c.loop-event.invariant (ap (λ xs. lines_of shown (map says xs)) step) c.in-ok-print-event.ensures
+    left_less (lines_of shown (map says (drop (i + 1) es))) c.loop-event.invariant (ap (λ xs. lines_of shown (map says xs)) step) c.in_ok-print_event.ensures
 
 pub returns : goal.returns
 returns g c =

@@ -9,14 +9,14 @@ pub returns-in-Some : goal.returns-in-Some
 returns-in-Some c = (
   _,
   chosen_as c.in-Some.is (narrow_lists 1 number_value 9 (codes "numbers") number_shown c.args.bytes.now c.in-Ok.journal c.in-Ok.ensures c.new-narrow.result _ c.new-narrow.ensures.0 c.new-narrow.ensures.1),
-  c.print-source.ensures,
+  c.print_source.ensures,
 )
 
 pub returns-in-None : goal.returns-in-None
 returns-in-None c = (
   _,
   chosen_as c.in-None.is (open_lists 1 number_value 9 (codes "numbers") number_shown c.args.bytes.now c.in-Ok.journal c.in-Ok.ensures None),
-  c.print-source-in-None.ensures,
+  c.print_source-in-None.ensures,
 )
 
 pub returns-in-Err : goal.returns-in-Err

@@ -12,7 +12,7 @@ loop-value-preserved g c =
     let h : i < length vs = omega arith in
     let v = c.value-item.result in
     let e = drop_more vs i v h ∙ ap (λ x. x ∷ drop (i + 1) vs) (sym c.value-item.is) in
-    left_less (ended (map shown (drop (i + 1) vs))) c.loop-value.invariant (ap (λ xs. ended (map shown xs)) e) (then c.in-ok-write.ensures c.in-ok-print.ensures)
+    left_less (ended (map shown (drop (i + 1) vs))) c.loop-value.invariant (ap (λ xs. ended (map shown xs)) e) (then c.in_ok-write.ensures c.in_ok-print.ensures)
 
 pub returns : goal.returns
 returns g c =

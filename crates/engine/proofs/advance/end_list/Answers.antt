@@ -18,13 +18,13 @@ returns g c =
           let n = length L in
           let W = c.forget.new.window in
           let R = c.forget.ensures.rest L F.window in
-          let base : c.saturating-sub.result ≡ n - 3 = c.saturating-sub.ensures ∙ ap (λ (z : ℕ). z - 3) j in
+          let base : c.saturating_sub.result ≡ n - 3 = c.saturating_sub.ensures ∙ ap (λ (z : ℕ). z - 3) j in
           let a = c.forget.ensures.few in
           let count : n - 3 + W.seen ≡ n = seen_count class W L (n - 3) n c.forget.ensures.long.0 (omega arith) (omega arith) refl R in
-          let last : c.saturating-sub.result + W.seen ≡ n = ap (λ (z : ℕ). z + W.seen) base ∙ count in
+          let last : c.saturating_sub.result + W.seen ≡ n = ap (λ (z : ℕ). z + W.seen) base ∙ count in
           let S₀ = start_close class s.cap (grid_of s) P k L N S F.held F.tracked F.total in
           let S₁ = subst (λ (z : ℕ). Start class s.cap (grid_of s) z n P k L (closing L)) (sym base) S₀ in
-          let S₂ = subst (λ (z : ℕ). Start class s.cap (grid_of s) c.saturating-sub.result z P k L (closing L)) (sym last) S₁ in
+          let S₂ = subst (λ (z : ℕ). Start class s.cap (grid_of s) c.saturating_sub.result z P k L (closing L)) (sym last) S₁ in
           let R₁ = subst (λ (z : ℕ). Remembers class W (drop z L)) (sym base) R in
           let D = c.settle.ensures.decides P k L (closing L) e refl R₁ S₂ in
           record { rules = D.decides; shown = D.shown };

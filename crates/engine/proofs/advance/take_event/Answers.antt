@@ -15,7 +15,7 @@ settle-requires g c =
     let F = c.requires.2 in
     let a = c.forget.ensures.few in
     let b = c.witness.ensures.more in
-    let d = c.saturating-sub.ensures in (
+    let d = c.saturating_sub.ensures in (
       search rules,
       (
         c.requires.0,
@@ -40,19 +40,19 @@ returns g c =
           let slot : (c.args.judged + 1) % 5 ≡ suc n % 5 = ap (λ (z : ℕ). z % 5) (let z : c.args.judged + 1 ≡ suc n = omega arith in z) in
           let C = subst (λ (z : ℕ). Cleared s.front G z) slot c.clear.ensures in
           let R = remembers_more class W L ev (c.witness.ensures.last (drop (n - 3) L) (c.forget.ensures.rest L F.window)) in
-          let base : c.saturating-sub.result ≡ n - 3 = c.saturating-sub.ensures ∙ ap (λ (z : ℕ). z - 3) j in
+          let base : c.saturating_sub.result ≡ n - 3 = c.saturating_sub.ensures ∙ ap (λ (z : ℕ). z - 3) j in
           let a = c.forget.ensures.few in
           let b = c.witness.ensures.more in
           let m = length-append L (ev ∷ []) in
           let count : n - 3 + W.seen ≡ suc n = seen_count class W (L ++ ev ∷ []) (n - 3) (suc n) c.witness.ensures.long.0 (omega arith) (omega arith) (omega arith) R in
-          let last : c.saturating-sub.result + W.seen ≡ suc n = ap (λ (z : ℕ). z + W.seen) base ∙ count in
+          let last : c.saturating_sub.result + W.seen ≡ suc n = ap (λ (z : ℕ). z + W.seen) base ∙ count in
           let H = cleared class s.cap (suc n % 5) (grid_of s) G C in
           let S₀ = start_feed class s.cap (grid_of s) P k L N S F.held F.tracked F.total ev G C in
           let S₁ = subst (λ (z : ℕ). Start class s.cap H z (suc n) P k L (so_far (L ++ ev ∷ []))) (sym base) S₀ in
-          let S₂ = subst (λ (z : ℕ). Start class s.cap H c.saturating-sub.result z P k L (so_far (L ++ ev ∷ []))) (sym last) S₁ in
+          let S₂ = subst (λ (z : ℕ). Start class s.cap H c.saturating_sub.result z P k L (so_far (L ++ ev ∷ []))) (sym last) S₁ in
           let R₁ = subst (λ (z : ℕ). Remembers class W (drop z (L ++ ev ∷ []))) (sym base) R in
           let D = c.settle.ensures.decides P k L (so_far (L ++ ev ∷ [])) e refl R₁ S₂ in
-          let D₁ = subst (λ (z : ℕ). Decided class s.cap H (grid_of t) c.saturating-sub.result z P k L (so_far (L ++ ev ∷ [])) c.settle.result) last D in
+          let D₁ = subst (λ (z : ℕ). Decided class s.cap H (grid_of t) c.saturating_sub.result z P k L (so_far (L ++ ev ∷ [])) c.settle.result) last D in
           let D₂ = subst (λ (z : ℕ). Decided class s.cap H (grid_of t) z (suc n) P k L (so_far (L ++ ev ∷ [])) c.settle.result) base D₁ in (
             record { rules = D₂.decides; shown = D₂.shown },
             follows_on class s t H P k L ev c.settle.result refl D₂ X.cap (subst (λ z. Remembers class z (drop (n - 3) (L ++ ev ∷ []))) (sym X.window) R),

@@ -14,22 +14,22 @@ returns-then-i-scene g c =
     fares_short (map g.K.Kind.class c.args.registers.now) (map g.K.Kind.class c.loop-j.registers) (matchers (statement t)) es c.args.from c.loop-j.j (c.loop-j.invariant es S)
     (matcher (get_or t.events c.loop-j.j Any)) (matchers_more t c.requires.0 c.loop-j.j c.loop-j-test.true) (omega arith)
 
-pub meets-matcher-requires : goal.meets-matcher-requires
-meets-matcher-requires g c = (search rules, search rules, inside_at c.args.t.now c.requires.0 c.loop-j.j)
+pub meets_matcher-requires : goal.meets_matcher-requires
+meets_matcher-requires g c = (search rules, search rules, inside_at c.args.t.now c.requires.0 c.loop-j.j)
 
-pub returns-then-not-meets-matcher : goal.returns-then-not-meets-matcher
-returns-then-not-meets-matcher g c =
+pub returns-then-not-meets_matcher : goal.returns-then-not-meets_matcher
+returns-then-not-meets_matcher g c =
     let t = c.args.t.now in
     let i = c.args.from + c.loop-j.j in
     let h = c.if-i-scene.false in
     λ es S. let n = S.0 in
-    let shown = subst (λ z. Shown g.K.Kind.class (get_or c.args.scene.now.ids.now i 0) z (get_or es i no_event)) (sym c.places-of-places.ensures.are) (S.1 i h) in
+    let shown = subst (λ z. Shown g.K.Kind.class (get_or c.args.scene.now.ids.now i 0) z (get_or es i no_event)) (sym c.places_of-places.ensures.are) (S.1 i h) in
     fares_not (map g.K.Kind.class c.args.registers.now) (map g.K.Kind.class c.loop-j.registers) (matchers (statement t)) es c.args.from c.loop-j.j (c.loop-j.invariant es S)
     (matcher (get_or t.events c.loop-j.j Any)) (matchers_more t c.requires.0 c.loop-j.j c.loop-j-test.true) (omega arith)
-    (sym c.if-not-meets-matcher.true ∙ c.meets-matcher.ensures (get_or es i no_event) shown)
+    (sym c.if-not-meets_matcher.true ∙ c.meets_matcher.ensures (get_or es i no_event) shown)
 
-pub write-matcher-requires : goal.write-matcher-requires
-write-matcher-requires g c = (search rules, search rules, inside_at c.args.t.now c.requires.0 c.loop-j.j)
+pub write_matcher-requires : goal.write_matcher-requires
+write_matcher-requires g c = (search rules, search rules, inside_at c.args.t.now c.requires.0 c.loop-j.j)
 
 pub loop-j-preserved : goal.loop-j-preserved
 loop-j-preserved g c =
@@ -37,11 +37,11 @@ loop-j-preserved g c =
     let i = c.args.from + c.loop-j.j in
     let h = c.if-i-scene.false in
     λ es S. let n = S.0 in
-    let shown = subst (λ z. Shown g.K.Kind.class (get_or c.args.scene.now.ids.now i 0) z (get_or es i no_event)) (sym c.places-of-places.ensures.are) (S.1 i h) in
+    let shown = subst (λ z. Shown g.K.Kind.class (get_or c.args.scene.now.ids.now i 0) z (get_or es i no_event)) (sym c.places_of-places.ensures.are) (S.1 i h) in
     fares_more (map g.K.Kind.class c.args.registers.now) (map g.K.Kind.class c.loop-j.registers) (matchers (statement t)) es c.args.from c.loop-j.j (c.loop-j.invariant es S)
     (matcher (get_or t.events c.loop-j.j Any)) (matchers_more t c.requires.0 c.loop-j.j c.loop-j-test.true) (omega arith)
-    (sym c.if-not-meets-matcher.false ∙ c.meets-matcher.ensures (get_or es i no_event) shown)
-    (map g.K.Kind.class c.write-matcher.new.registers) (c.write-matcher.ensures (get_or c.args.scene.now.ids.now i 0) (get_or es i no_event) shown)
+    (sym c.if-not-meets_matcher.false ∙ c.meets_matcher.ensures (get_or es i no_event) shown)
+    (map g.K.Kind.class c.write_matcher.new.registers) (c.write_matcher.ensures (get_or c.args.scene.now.ids.now i 0) (get_or es i no_event) shown)
 
 pub returns : goal.returns
 returns g c =

@@ -13,8 +13,8 @@ loop-j-preserved g c =
     let six = i.0 in
     let l : c.loop-j.j < length (guards c.in-Event.guard) = omega (arith, c.loop-j-test.true) in
     let l' : c.loop-j.j < length c.args.places.now = omega (arith, c.loop-j-test.true, c.requires.1) in
-    let b = c.write-pattern.ensures ∙ ap (λ p. written (map class c.loop-j.registers) (class c.index-places-j.result) (pattern p)) (sym (guard_at c.in-Event.guard i c.loop-j.j c.loop-j-test.true)) in
-    write_step class c.loop-j.registers c.args.places.now (guards c.in-Event.guard) _ c.loop-j.j c.index-places-j.result c.write-pattern.new.registers l l' c.index-places-j.is b c.loop-j.invariant
+    let b = c.write_pattern.ensures ∙ ap (λ p. written (map class c.loop-j.registers) (class c.index-places-j.result) (pattern p)) (sym (guard_at c.in-Event.guard i c.loop-j.j c.loop-j-test.true)) in
+    write_step class c.loop-j.registers c.args.places.now (guards c.in-Event.guard) _ c.loop-j.j c.index-places-j.result c.write_pattern.new.registers l l' c.index-places-j.is b c.loop-j.invariant
 
 pub returns-after-loop-j : goal.returns-after-loop-j
 returns-after-loop-j g c =

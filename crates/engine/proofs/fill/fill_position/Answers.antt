@@ -38,9 +38,9 @@ pub returns : goal.returns
 returns g c =
     let class = g.K.Kind.class in
     let b = c.args.book.now in
-    let b₂ = c.step-rows.new.book in
+    let b₂ = c.step_rows.new.book in
     let G₀ = grid c.args.front.now c.args.rows.now (vec_items b.entries) b.used in
-    let G₂ = grid c.step-rows.new.front c.step-rows.new.rows (vec_items b₂.entries) b₂.used in record {
+    let G₂ = grid c.step_rows.new.front c.step_rows.new.rows (vec_items b₂.entries) b₂.used in record {
       safe = let S = c.in-None.ensures.safe in record { room = S.room; more = S.more; spares = S.spares; long = S.long; known = S.known };
       fills = λ P k L w W R.
           let p = c.args.p in

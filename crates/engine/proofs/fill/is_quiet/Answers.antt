@@ -14,30 +14,30 @@ loop-i-preserved-then-t-state g c base P w W =
     let d = configuration g.K.Kind.class c.args.state c.args.held.now in
     let n = length_numbered P c.args.scene.now.statements.now W.statements in
     let l : c.loop-i.i < length (numbered P) = omega (arith, c.loop-i-test.true) in
-    let S = statement c.statement-at-t.result.statement in
+    let S = statement c.statement_at-t.result.statement in
     quiet_more w (base + c.args.from) d (numbered P) c.loop-i.i l
-    ∙ ap₂ ◌&&◌ (c.loop-i.invariant base P w W) (calms_away w base c.args.from d (get_or (numbered P) c.loop-i.i (65, implied)) S (ap (λ t. t.1) (c.statement-at-t.ensures.is P W.statements)) c.if-t-state.true)
+    ∙ ap₂ ◌&&◌ (c.loop-i.invariant base P w W) (calms_away w base c.args.from d (get_or (numbered P) c.loop-i.i (65, implied)) S (ap (λ t. t.1) (c.statement_at-t.ensures.is P W.statements)) c.if-t-state.true)
 
-pub returns-then-not-is-calm : goal.returns-then-not-is-calm
-returns-then-not-is-calm g c base P w W =
+pub returns-then-not-is_calm : goal.returns-then-not-is_calm
+returns-then-not-is_calm g c base P w W =
     let d = configuration g.K.Kind.class c.args.state c.args.held.now in
     let n = length_numbered P c.args.scene.now.statements.now W.statements in
     let l : c.loop-i.i < length (numbered P) = omega (arith, c.loop-i-test.true) in
-    let S = statement c.statement-at-t.result.statement in
+    let S = statement c.statement_at-t.result.statement in
     sym (loud w (base + c.args.from) d (numbered P) c.loop-i.i l
-    (calms_here w base c.args.from d (get_or (numbered P) c.loop-i.i (65, implied)) S (ap (λ t. t.1) (c.statement-at-t.ensures.is P W.statements)) c.if-t-state.false false (mode_of c.args.scene.now.closed) W.mode
-    (sym c.if-not-is-calm.true ∙ c.is-calm.ensures _ W.events)))
+    (calms_here w base c.args.from d (get_or (numbered P) c.loop-i.i (65, implied)) S (ap (λ t. t.1) (c.statement_at-t.ensures.is P W.statements)) c.if-t-state.false false (mode_of c.args.scene.now.closed) W.mode
+    (sym c.if-not-is_calm.true ∙ c.is_calm.ensures _ W.events)))
 
 pub loop-i-preserved : goal.loop-i-preserved
 loop-i-preserved g c base P w W =
     let d = configuration g.K.Kind.class c.args.state c.args.held.now in
     let n = length_numbered P c.args.scene.now.statements.now W.statements in
     let l : c.loop-i.i < length (numbered P) = omega (arith, c.loop-i-test.true) in
-    let S = statement c.statement-at-t.result.statement in
+    let S = statement c.statement_at-t.result.statement in
     quiet_more w (base + c.args.from) d (numbered P) c.loop-i.i l
     ∙ ap₂ ◌&&◌ (c.loop-i.invariant base P w W)
-    (calms_here w base c.args.from d (get_or (numbered P) c.loop-i.i (65, implied)) S (ap (λ t. t.1) (c.statement-at-t.ensures.is P W.statements)) c.if-t-state.false true (mode_of c.args.scene.now.closed) W.mode
-    (sym c.if-not-is-calm.false ∙ c.is-calm.ensures _ W.events))
+    (calms_here w base c.args.from d (get_or (numbered P) c.loop-i.i (65, implied)) S (ap (λ t. t.1) (c.statement_at-t.ensures.is P W.statements)) c.if-t-state.false true (mode_of c.args.scene.now.closed) W.mode
+    (sym c.if-not-is_calm.false ∙ c.is_calm.ensures _ W.events))
 
 pub returns : goal.returns
 returns g c base P w W =

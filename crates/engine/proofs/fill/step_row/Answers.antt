@@ -12,8 +12,8 @@ use Rattle.engine.proofs.Fronts.{row_read, length_row_at, entry_known}
 use Rattle.engine.proofs.Fills.{brought_on, safe_on, entry_steps}
 use Rattle.engine.proofs.fill.step_row.Goals as goal
 
-pub step-configuration-requires : goal.step-configuration-requires
-step-configuration-requires g c =
+pub step_configuration-requires : goal.step_configuration-requires
+step_configuration-requires g c =
     let b₂ = c.loop-i.book in
     let G₂ = grid c.loop-i.front c.loop-i.rows (vec_items b₂.entries) b₂.used in
     let S = c.loop-i.invariant.0 in
@@ -26,10 +26,10 @@ returns-in-Some g c =
     let class = g.K.Kind.class in
     let b = c.args.book.now in
     let b₂ = c.loop-i.book in
-    let b₃ = c.step-configuration.new.book in
+    let b₃ = c.step_configuration.new.book in
     let G₀ = grid c.args.front.now c.args.rows.now (vec_items b.entries) b.used in
     let G₂ = grid c.loop-i.front c.loop-i.rows (vec_items b₂.entries) b₂.used in
-    let G₃ = grid c.step-configuration.new.front c.step-configuration.new.rows (vec_items b₃.entries) b₃.used in
+    let G₃ = grid c.step_configuration.new.front c.step_configuration.new.rows (vec_items b₃.entries) b₃.used in
     let cap = c.args.way.cap in
     let slot = c.args.way.slot in
     let S = c.loop-i.invariant.0 in record {
@@ -53,10 +53,10 @@ loop-i-preserved g c =
     let class = g.K.Kind.class in
     let b = c.args.book.now in
     let b₂ = c.loop-i.book in
-    let b₃ = c.step-configuration.new.book in
+    let b₃ = c.step_configuration.new.book in
     let G₀ = grid c.args.front.now c.args.rows.now (vec_items b.entries) b.used in
     let G₂ = grid c.loop-i.front c.loop-i.rows (vec_items b₂.entries) b₂.used in
-    let G₃ = grid c.step-configuration.new.front c.step-configuration.new.rows (vec_items b₃.entries) b₃.used in
+    let G₃ = grid c.step_configuration.new.front c.step_configuration.new.rows (vec_items b₃.entries) b₃.used in
     let cap = c.args.way.cap in
     let slot = c.args.way.slot in
     let S = c.loop-i.invariant.0 in (

@@ -22,8 +22,8 @@ loop-q-init g c =
           (ap (incoming P w (λ q. row_at g.K.Kind.class c.args.cap G₀ (q % 5)) c.args.p c.args.base) e),
     )
 
-pub step-row-requires : goal.step-row-requires
-step-row-requires g c =
+pub step_row-requires : goal.step_row-requires
+step_row-requires g c =
     let l : c.loop-q.q < c.args.p = c.loop-q-test.true in
     let low : c.args.base ≤ c.loop-q.q = c.loop-q.auto.q in
     (c.requires.0, omega (arith, c.requires.1), search rules, search rules, omega arith, c.loop-q.invariant.0.room, omega arith, λ z. omega arith)
@@ -33,10 +33,10 @@ returns-in-Some g c =
     let class = g.K.Kind.class in
     let b = c.args.book.now in
     let b₂ = c.loop-q.book in
-    let b₃ = c.step-row.new.book in
+    let b₃ = c.step_row.new.book in
     let G₀ = grid c.args.front.now c.args.rows.now (vec_items b.entries) b.used in
     let G₂ = grid c.loop-q.front c.loop-q.rows (vec_items b₂.entries) b₂.used in
-    let G₃ = grid c.step-row.new.front c.step-row.new.rows (vec_items b₃.entries) b₃.used in
+    let G₃ = grid c.step_row.new.front c.step_row.new.rows (vec_items b₃.entries) b₃.used in
     let cap = c.args.cap in
     let S = c.loop-q.invariant.0 in record {
       safe = safe_on cap (c.args.p % 5) G₀ G₂ G₃ (Some c.in-Some.entry) S c.in-Some.ensures.safe;
@@ -65,10 +65,10 @@ loop-q-preserved g c =
     let class = g.K.Kind.class in
     let b = c.args.book.now in
     let b₂ = c.loop-q.book in
-    let b₃ = c.step-row.new.book in
+    let b₃ = c.step_row.new.book in
     let G₀ = grid c.args.front.now c.args.rows.now (vec_items b.entries) b.used in
     let G₂ = grid c.loop-q.front c.loop-q.rows (vec_items b₂.entries) b₂.used in
-    let G₃ = grid c.step-row.new.front c.step-row.new.rows (vec_items b₃.entries) b₃.used in
+    let G₃ = grid c.step_row.new.front c.step_row.new.rows (vec_items b₃.entries) b₃.used in
     let cap = c.args.cap in
     let S = c.loop-q.invariant.0 in (
       safe_on cap (c.args.p % 5) G₀ G₂ G₃ None S c.in-None.ensures.safe,

@@ -33,14 +33,14 @@ returns-then-way-scene g c =
           (ap (landed (base + c.args.way.from + c.args.way.distance)) (skips_late P w base c.args.way.from d l));
     }
 
-pub returns-then-not-is-quiet : goal.returns-then-not-is-quiet
-returns-then-not-is-quiet g c =
+pub returns-then-not-is_quiet : goal.returns-then-not-is_quiet
+returns-then-not-is_quiet g c =
     let b = c.args.book.now in
     let G = grid c.args.front.now c.args.rows.now (vec_items b.entries) b.used in
     let d = configuration g.K.Kind.class c.args.at.state c.args.held.now in record {
       safe = safe_none c.args.way.cap c.args.way.slot G c.requires.5;
       brings = λ base P k w W r. brought_none g.K.Kind.class c.args.way.cap P k w (base + c.args.way.from + c.args.way.distance) c.args.way.slot c.requires.4 G c.requires.5 _
-          (loud_skips P w (base + c.args.way.from) (base + c.args.way.from + c.args.way.distance) d (sym (c.is-quiet.ensures base P w W) ∙ c.if-not-is-quiet.true));
+          (loud_skips P w (base + c.args.way.from) (base + c.args.way.from + c.args.way.distance) d (sym (c.is_quiet.ensures base P w W) ∙ c.if-not-is_quiet.true));
     }
 
 pub returns : goal.returns
@@ -58,7 +58,7 @@ returns g c = record {
       let n = W.events.0 in
       let l : c.args.way.from < length (drop base w.events) = omega (arith, c.if-way-scene.false) in
       let m = length-drop base w.events in
-      let h = sym c.if-not-is-quiet.false ∙ c.is-quiet.ensures base P w W in
+      let h = sym c.if-not-is_quiet.false ∙ c.is_quiet.ensures base P w W in
       let e : suc q ≡ p = omega (arith, c.if-way-ne1.false) in
       let move = onward r (skip (omega arith) (λ t v. quiet_sound w q d (sym h) v.0 v.1)) in
       let r' = subst (λ (z : ℕ). Reach P k w z d (steps_by (vec_items b.entries) (record { parent = c.args.at.entry; step = 0 }))) e move in

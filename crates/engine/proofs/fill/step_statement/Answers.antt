@@ -56,8 +56,8 @@ returns-in-Passes g c = record {
       let s = span_is t.statement c.requires.7 in
       let e = c.if-t-way.false in
       let n : q + span T ≡ p = omega arith in
-      let regs = map class c.attempt-statement.new.registers in
-      let h = c.in-Passes.ensures (drop base w.events) W.events ∙ ap (λ z. fares (matchers T) (map class z) (drop c.args.way.from (drop base w.events))) c.copy-from-slice.ensures.after in
+      let regs = map class c.attempt_statement.new.registers in
+      let h = c.in-Passes.ensures (drop base w.events) W.events ∙ ap (λ z. fares (matchers T) (map class z) (drop c.args.way.from (drop base w.events))) c.copy_from_slice.ensures.after in
       let move = onward r (pass (t.number, T) regs (m, c.if-t-at.false) (fared w base c.args.way.from d (t.number, T) T refl ∙ sym h)) in
       let r' = subst (λ (z : ℕ). Reach P k w z (record { state = T.target; registers = regs }) (steps_by (vec_items b.entries) (record { parent = c.args.at.entry; step = t.number }))) n move in
       subst (λ z. Brought class cap slot P k w p G H z c.land.result)
@@ -76,7 +76,7 @@ returns-in-Fails g c =
     let d = configuration class c.args.at.state c.args.held.now in record {
       safe = safe_none cap slot G c.requires.5;
       brings = λ base P k w W m r.
-          let h = c.in-Fails.ensures (drop base w.events) W.events ∙ ap (λ z. fares (matchers T) (map class z) (drop c.args.way.from (drop base w.events))) c.copy-from-slice.ensures.after in
+          let h = c.in-Fails.ensures (drop base w.events) W.events ∙ ap (λ z. fares (matchers T) (map class z) (drop c.args.way.from (drop base w.events))) c.copy_from_slice.ensures.after in
           brought_none class cap P k w (base + c.args.way.from + c.args.way.distance) slot c.requires.4 G c.requires.5 _
           (lands_fails w base c.args.way.from d (t.number, T) T refl (base + c.args.way.from + c.args.way.distance) h);
     }
@@ -93,7 +93,7 @@ returns-in-Hangs g c =
     let d = configuration class c.args.at.state c.args.held.now in record {
       safe = safe_none cap slot G c.requires.5;
       brings = λ base P k w W m r.
-          let h = c.in-Hangs.ensures (drop base w.events) W.events ∙ ap (λ z. fares (matchers T) (map class z) (drop c.args.way.from (drop base w.events))) c.copy-from-slice.ensures.after in
+          let h = c.in-Hangs.ensures (drop base w.events) W.events ∙ ap (λ z. fares (matchers T) (map class z) (drop c.args.way.from (drop base w.events))) c.copy_from_slice.ensures.after in
           brought_none class cap P k w (base + c.args.way.from + c.args.way.distance) slot c.requires.4 G c.requires.5 _
           (lands_hangs w base c.args.way.from d (t.number, T) T refl (base + c.args.way.from + c.args.way.distance) h);
     }

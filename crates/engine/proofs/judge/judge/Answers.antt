@@ -10,15 +10,15 @@ loop-p-init g c =
     let G₀ = grid c.args.front.now c.args.rows.now (vec_items b.entries) b.used in
     (c.requires.5, refl, λ P k L w W S. along_start g.K.Kind.class c.args.cap c.args.base c.args.last P k L w G₀ S c.requires.6)
 
-pub returns-in-default : goal.returns-in-default
-returns-in-default g c =
+pub returns-in_default : goal.returns-in_default
+returns-in_default g c =
     let b = c.args.book.now in
     let b₂ = c.loop-p.book in
-    let b₃ = c.judge-position.new.book in
+    let b₃ = c.judge_position.new.book in
     let G₀ = grid c.args.front.now c.args.rows.now (vec_items b.entries) b.used in
     let G₂ = grid c.loop-p.front c.loop-p.rows (vec_items b₂.entries) b₂.used in
-    let G₃ = grid c.judge-position.new.front c.judge-position.new.rows (vec_items b₃.entries) b₃.used in
-    let X = c.judge-position.ensures.safe in record {
+    let G₃ = grid c.judge_position.new.front c.judge_position.new.rows (vec_items b₃.entries) b₃.used in
+    let X = c.judge_position.ensures.safe in record {
       room = X.room;
       long = X.long ∙ c.loop-p.invariant.1;
       known = λ p x e. X.known x (ap shown_entry e);
@@ -30,19 +30,19 @@ returns-in-default g c =
           let A = c.loop-p.invariant.2 P k L w W S in
           let ready = along_ready class c.args.cap c.args.base c.args.last P k L w G₀ S c.requires.6 p G₂ c.loop-p.invariant.1 c.loop-p.invariant.0 A low high in
           let balance = along_balance class c.args.cap c.args.base c.args.last P k L w G₀ S c.requires.6 p G₂ c.loop-p.invariant.1 c.loop-p.invariant.0 A low high in
-          let J = c.judge-position.ensures.rules P k L w W ready balance in
-          along_decides class c.args.cap c.args.base c.args.last P k L w G₀ S c.requires.6 p G₂ c.loop-p.invariant.1 c.loop-p.invariant.0 A low high G₃ c.judge-position.result (shown_entry c.judge-position.result) X J c.in-default.not-GoesOn;
+          let J = c.judge_position.ensures.rules P k L w W ready balance in
+          along_decides class c.args.cap c.args.base c.args.last P k L w G₀ S c.requires.6 p G₂ c.loop-p.invariant.1 c.loop-p.invariant.0 A low high G₃ c.judge_position.result (shown_entry c.judge_position.result) X J c.in_default.not-GoesOn;
     }
 
 pub loop-p-preserved : goal.loop-p-preserved
 loop-p-preserved g c =
     let b = c.args.book.now in
     let b₂ = c.loop-p.book in
-    let b₃ = c.judge-position.new.book in
+    let b₃ = c.judge_position.new.book in
     let G₀ = grid c.args.front.now c.args.rows.now (vec_items b.entries) b.used in
     let G₂ = grid c.loop-p.front c.loop-p.rows (vec_items b₂.entries) b₂.used in
-    let G₃ = grid c.judge-position.new.front c.judge-position.new.rows (vec_items b₃.entries) b₃.used in
-    let X = c.judge-position.ensures.safe in (
+    let G₃ = grid c.judge_position.new.front c.judge_position.new.rows (vec_items b₃.entries) b₃.used in
+    let X = c.judge_position.ensures.safe in (
       X.room,
       X.long ∙ c.loop-p.invariant.1,
       λ P k L w W S.
@@ -53,8 +53,8 @@ loop-p-preserved g c =
           let A = c.loop-p.invariant.2 P k L w W S in
           let ready = along_ready class c.args.cap c.args.base c.args.last P k L w G₀ S c.requires.6 p G₂ c.loop-p.invariant.1 c.loop-p.invariant.0 A low high in
           let balance = along_balance class c.args.cap c.args.base c.args.last P k L w G₀ S c.requires.6 p G₂ c.loop-p.invariant.1 c.loop-p.invariant.0 A low high in
-          let J = c.judge-position.ensures.rules P k L w W ready balance in
-          along_more class c.args.cap c.args.base c.args.last P k L w G₀ S c.requires.6 p G₂ c.loop-p.invariant.1 c.loop-p.invariant.0 A low high G₃ c.judge-position.result (shown_entry c.judge-position.result) X J c.in-GoesOn.is,
+          let J = c.judge_position.ensures.rules P k L w W ready balance in
+          along_more class c.args.cap c.args.base c.args.last P k L w G₀ S c.requires.6 p G₂ c.loop-p.invariant.1 c.loop-p.invariant.0 A low high G₃ c.judge_position.result (shown_entry c.judge_position.result) X J c.in-GoesOn.is,
     )
 
 pub returns : goal.returns

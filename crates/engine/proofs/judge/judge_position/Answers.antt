@@ -40,12 +40,12 @@ returns-in-Spilled g c =
       };
     }
 
-pub returns-then-is-over : goal.returns-then-is-over
-returns-then-is-over g c =
+pub returns-then-is_over : goal.returns-then-is_over
+returns-then-is_over g c =
     let b = c.args.book.now in
-    let b₂ = c.fill-position.new.book in
+    let b₂ = c.fill_position.new.book in
     let G₀ = grid c.args.front.now c.args.rows.now (vec_items b.entries) b.used in
-    let G₂ = grid c.fill-position.new.front c.fill-position.new.rows (vec_items b₂.entries) b₂.used in record {
+    let G₂ = grid c.fill_position.new.front c.fill_position.new.rows (vec_items b₂.entries) b₂.used in record {
       safe = c.in-Stands.ensures.safe;
       rules = λ P k L w W R B.
           let class = g.K.Kind.class in
@@ -59,8 +59,8 @@ returns-then-is-over g c =
           let m₀ = length_row_at class c.args.cap (p % 5) G₀ slot c.requires.5 in
           let top = Rm.3 (p % 5) in
           let long = S.long in
-          let s = c.saturating-sub-need.ensures in
-          let o = ltb-true c.room.result c.saturating-sub-need.result (sym c.is-over.ensures ∙ c.if-is-over.true) in
+          let s = c.saturating_sub-need.ensures in
+          let o = ltb-true c.room.result c.saturating_sub-need.result (sym c.is_over.ensures ∙ c.if-is_over.true) in
           let z = c.room.ensures in record {
             rules = rules_full P k c.args.cap (room_of (vec_items b.entries)) (so_far L) w p S.no_error (omega arith) (omega arith);
             shown = tt;
@@ -72,12 +72,12 @@ returns-then-is-over g c =
           };
     }
 
-pub returns-else-is-over : goal.returns-else-is-over
-returns-else-is-over g c =
+pub returns-else-is_over : goal.returns-else-is_over
+returns-else-is_over g c =
     let b = c.args.book.now in
-    let b₂ = c.fill-position.new.book in
+    let b₂ = c.fill_position.new.book in
     let G₀ = grid c.args.front.now c.args.rows.now (vec_items b.entries) b.used in
-    let G₂ = grid c.fill-position.new.front c.fill-position.new.rows (vec_items b₂.entries) b₂.used in record {
+    let G₂ = grid c.fill_position.new.front c.fill_position.new.rows (vec_items b₂.entries) b₂.used in record {
       safe = c.in-Stands.ensures.safe;
       rules = λ P k L w W R B.
           let class = g.K.Kind.class in
@@ -91,8 +91,8 @@ returns-else-is-over g c =
           let m₀ = length_row_at class c.args.cap (p % 5) G₀ slot c.requires.5 in
           let top = Rm.3 (p % 5) in
           let long = S.long in
-          let s = c.saturating-sub-need.ensures in
-          let o : c.saturating-sub-need.result ≤ c.room.result = ltb-false c.room.result c.saturating-sub-need.result (sym c.is-over.ensures ∙ c.if-is-over.false) in
+          let s = c.saturating_sub-need.ensures in
+          let o : c.saturating_sub-need.result ≤ c.room.result = ltb-false c.room.result c.saturating_sub-need.result (sym c.is_over.ensures ∙ c.if-is_over.false) in
           let z = c.room.ensures in
           let fit : Fits (p % 5) G₀ G₂ = omega arith in
           let counted = S.counted fit in record {

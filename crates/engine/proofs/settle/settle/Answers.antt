@@ -10,8 +10,8 @@ pub judge-requires : goal.judge-requires
 judge-requires g c =
     let s = c.args.s.now in
     let F = c.requires.2 in
-    let rows : take (40 * s.cap - 0) c.deref-mut.result.now ≡ take (40 * s.cap) (vec_items s.board) =
-    ap (λ (z : ℕ). take z c.deref-mut.result.now) (let z : 40 * s.cap - 0 ≡ 40 * s.cap = omega arith in z) ∙ ap (take (40 * s.cap)) c.deref-mut.ensures.value in
+    let rows : take (40 * s.cap - 0) c.deref_mut.result.now ≡ take (40 * s.cap) (vec_items s.board) =
+    ap (λ (z : ℕ). take z c.deref_mut.result.now) (let z : 40 * s.cap - 0 ≡ 40 * s.cap = omega arith in z) ∙ ap (take (40 * s.cap)) c.deref_mut.ensures.value in
     let a = length-take-le (s.window.seen - 0) s.window.ids (omega (arith, F.0, F.1.0)) in
     let b = length-take-le (6 * s.window.seen - 0) s.window.places (omega (arith, F.0, F.1.1)) in (
       (c.requires.0, c.requires.1, omega arith),
@@ -40,8 +40,8 @@ returns g c =
         known = c.judge.ensures.known;
       };
       decides = λ P k L w e m R S.
-          let rows : take (40 * s.cap - 0) c.deref-mut.result.now ≡ take (40 * s.cap) (vec_items s.board) =
-          ap (λ (z : ℕ). take z c.deref-mut.result.now) (let z : 40 * s.cap - 0 ≡ 40 * s.cap = omega arith in z) ∙ ap (take (40 * s.cap)) c.deref-mut.ensures.value in
+          let rows : take (40 * s.cap - 0) c.deref_mut.result.now ≡ take (40 * s.cap) (vec_items s.board) =
+          ap (λ (z : ℕ). take z c.deref_mut.result.now) (let z : 40 * s.cap - 0 ≡ 40 * s.cap = omega arith in z) ∙ ap (take (40 * s.cap)) c.deref_mut.ensures.value in
           let a : s.window.seen ≡ s.window.seen - 0 = omega arith in
           let b : 6 * s.window.seen ≡ 6 * s.window.seen - 0 = omega arith in
           let R₁ = subst (λ (z : ℕ). Seen class (take z s.window.ids) (take (6 * s.window.seen) s.window.places) (drop c.args.base w.events)) a R in

@@ -9,7 +9,7 @@ returns-then-id-eq1 g c =
     let n = g.K.Kind.nothing in
     let vs = c.args.values.now in
     let e = c.if-id-eq1.true in
-    c.value-of.ensures ∙ ap (λ b. get_or (cond b (n ∷ vs) vs) c.args.i n) (sym (ne_eqb (c.args.id % 2) 0 (λ z. omega arith)))
+    c.value_of.ensures ∙ ap (λ b. get_or (cond b (n ∷ vs) vs) c.args.i n) (sym (ne_eqb (c.args.id % 2) 0 (λ z. omega arith)))
 
 pub returns-then-i-eq0 : goal.returns-then-i-eq0
 returns-then-i-eq0 g c =
@@ -23,4 +23,4 @@ returns-else-i-eq0 g c =
     let n = g.K.Kind.nothing in
     let vs = c.args.values.now in
     let e = c.if-id-eq1.false in
-    c.value-of-else-i-eq0.ensures ∙ (getD_later n vs c.args.i n c.if-i-eq0.false ∙ ap (λ b. get_or (cond b (n ∷ vs) vs) c.args.i n) (sym (eq-eqb (c.args.id % 2) 0 (omega arith))))
+    c.value_of-else-i-eq0.ensures ∙ (getD_later n vs c.args.i n c.if-i-eq0.false ∙ ap (λ b. get_or (cond b (n ∷ vs) vs) c.args.i n) (sym (eq-eqb (c.args.id % 2) 0 (omega arith))))

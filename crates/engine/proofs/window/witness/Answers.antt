@@ -14,8 +14,8 @@ pub loop-i-preserved : goal.loop-i-preserved
 loop-i-preserved g c =
     let W = c.args.window.now in
     let vp = value_places g.K.Kind.nothing c.args.id c.args.values.now in (
-      ap (λ z. set z (6 * W.seen + c.loop-i.i) c.place-of.result) c.loop-i.invariant.0
-          ∙ written_place g.K.Kind.class g.K.Kind.nothing c.args.id c.args.values.now W.places W.seen c.loop-i.i c.place-of.result (omega (arith, c.requires.0, c.requires.1.1)) c.loop-i-test.true c.place-of.ensures,
+      ap (λ z. set z (6 * W.seen + c.loop-i.i) c.place_of.result) c.loop-i.invariant.0
+          ∙ written_place g.K.Kind.class g.K.Kind.nothing c.args.id c.args.values.now W.places W.seen c.loop-i.i c.place_of.result (omega (arith, c.requires.0, c.requires.1.1)) c.loop-i-test.true c.place_of.ensures,
       c.loop-i.invariant.1,
       c.loop-i.invariant.2,
     )

@@ -10,7 +10,7 @@ both ss ts gs hs o e f x =
 
 pub returns-in-Some : goal.returns-in-Some
 returns-in-Some c =
-    (inr (refl, (c.read.new.draft, c.in-Ok.ensures, both _ _ _ _ (Some c.in-Some.place) c.as-slice.ensures.value c.as-slice-2.ensures.value c.in-Some.ensures)), refl)
+    (inr (refl, (c.read.new.draft, c.in-Ok.ensures, both _ _ _ _ (Some c.in-Some.place) c.as_slice.ensures.value c.as_slice-2.ensures.value c.in-Some.ensures)), refl)
 
 pub returns : goal.returns
-returns c = (c.in-Ok.ensures, both _ _ _ _ None c.as-slice.ensures.value c.as-slice-2.ensures.value c.in-default.ensures)
+returns c = (c.in-Ok.ensures, both _ _ _ _ None c.as_slice.ensures.value c.as_slice-2.ensures.value c.in_default.ensures)

@@ -1,4 +1,4 @@
-use Rattle.std.proofs.Common.{◌≡◌, ℕ, ◌≤◌, Bool, true, false, List, length, sym, refl, ap, ◌∙◌, subst, arith, Bor, MutBor}
+use Rattle.std.proofs.Common.{◌≡◌, ℕ, ◌≤◌, Bool, true, false, List, length, sym, refl, ap, ◌∙◌, subst, arith, Bor}
 use Rattle.forms.specs.Forms.{Accepted, Refused}
 use Rattle.forms.specs.Grammars.{form}
 use Rattle.forms.specs.Steps.{Carries}
@@ -18,14 +18,14 @@ loop-draft-init c =
     let z : 0 ≤ length t = omega arith in
     (refl, z, carries_none t (view t c.new-draft.result) (c.new-draft.ensures t))
 
-pub returns-in-err-found : goal.returns-in-err-found
-returns-in-err-found c =
+pub returns-in_err-found : goal.returns-in_err-found
+returns-in_err-found c =
     let t = c.loop-draft.reader.text.now in
-    let f = c.in-err-found.field-0.0 in
+    let f = c.in_err-found.field-0.0 in
     let e = ap (λ (r : Bor (List ℕ)). r.now) c.loop-draft.invariant.0 in
-    outward _ _ _ f c.from-residual.ensures.1
+    outward _ _ _ f c.from_residual.ensures.1
     (subst (λ (u : List ℕ). Refused any_text u (text_number f.reason) f.place) e
-    (carries_halt t (view t c.loop-draft.draft) c.loop-draft.reader.place _ _ c.loop-draft.invariant.2 c.in-err-found.ensures))
+    (carries_halt t (view t c.loop-draft.draft) c.loop-draft.reader.place _ _ c.loop-draft.invariant.2 c.in_err-found.ensures))
 
 pub loop-draft-preserved : goal.loop-draft-preserved
 loop-draft-preserved c =
@@ -34,10 +34,10 @@ loop-draft-preserved c =
     let d = c.loop-draft.draft in
     let a = c.loop-draft.reader.place in
     let x = c.in-Some.found in
-    let e : t ≡ u = ap (λ (r : MutBor (List ℕ)). r.now) c.loop-draft.invariant.0 in
-    let r : Read (view t d) t a x = subst (ComesNext (view t d) t a) c.in-Some.is c.in-ok-found.ensures in
+    let e : t ≡ u = ap (λ (r : Bor (List ℕ)). r.now) c.loop-draft.invariant.0 in
+    let r : Read (view t d) t a x = subst (ComesNext (view t d) t a) c.in-Some.is c.in_ok-found.ensures in
     let last = c.advance.new.self in
-    let g = subst (λ (z : List ℕ). view z last ≡ moved (view z d) (spelled z x.name) x.byte x.name.from) (sym e) c.in-ok-advance.ensures in (
+    let g = subst (λ (z : List ℕ). view z last ≡ moved (view z d) (spelled z x.name) x.byte x.name.from) (sym e) c.in_ok-advance.ensures in (
       c.loop-draft.invariant.0,
       r.high,
       subst (λ (q : State). Carries any_text (form text q x.name.to) t x.name.to) (sym g) (carries_on t (view t d) a x c.loop-draft.invariant.2 r),
@@ -64,8 +64,8 @@ returns-then-not-routed c =
     let a = c.loop-draft.reader.place in
     let last = c.close.new.self in
     lost t u d a (ap (λ (r : Bor (List ℕ)). r.now) c.loop-draft.invariant.0) c.loop-draft.invariant.2
-    (subst (ComesNext (view t d) t a) c.in-default.is c.in-ok-found.ensures) c.loop-draft.invariant.1
-    (routed_by (sofar u last) (closing (view u d)) c.as-slice.result.now c.routed.result false c.in-ok-close.ensures c.as-slice.ensures.value c.routed.ensures c.if-not-routed.true)
+    (subst (ComesNext (view t d) t a) c.in_default.is c.in_ok-found.ensures) c.loop-draft.invariant.1
+    (routed_by (sofar u last) (closing (view u d)) c.as_slice.result.now c.routed.result false c.in_ok-close.ensures c.as_slice.ensures.value c.routed.ensures c.if-not-routed.true)
 
 pub returns : goal.returns
 returns c =
@@ -74,7 +74,7 @@ returns c =
     let d = c.loop-draft.draft in
     let a = c.loop-draft.reader.place in
     let last = c.close.new.self in
-    subst (λ (P : Property). Accepted any_text u P) (sym c.in-ok-close.ensures)
+    subst (λ (P : Property). Accepted any_text u P) (sym c.in_ok-close.ensures)
     (well t u d a (ap (λ (r : Bor (List ℕ)). r.now) c.loop-draft.invariant.0) c.loop-draft.invariant.2
-    (subst (ComesNext (view t d) t a) c.in-default.is c.in-ok-found.ensures)
-    (routed_by (sofar u last) (closing (view u d)) c.as-slice.result.now c.routed.result true c.in-ok-close.ensures c.as-slice.ensures.value c.routed.ensures c.if-not-routed.false))
+    (subst (ComesNext (view t d) t a) c.in_default.is c.in_ok-found.ensures)
+    (routed_by (sofar u last) (closing (view u d)) c.as_slice.result.now c.routed.result true c.in_ok-close.ensures c.as_slice.ensures.value c.routed.ensures c.if-not-routed.false))

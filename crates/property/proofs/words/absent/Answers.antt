@@ -3,4 +3,4 @@ use Rattle.property.specs.Views.{spelled}
 use Rattle.property.proofs.words.absent.Goals as goal
 
 pub returns : goal.returns
-returns c = let e = c.find-name.ensures in let f = length-map c.args.names.now (spelled c.args.text.now) in cc
+returns c = let e = c.find_name.ensures in let f = length-map c.args.names.now (spelled c.args.text.now) in cc

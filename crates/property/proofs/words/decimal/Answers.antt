@@ -19,7 +19,7 @@ loop-b-preserved c =
     let i = c.loop-b.b-index in
     elim c.if-v-le65535.branch [
       | then-v-le65535 w ↦
-          (let e : c.if-v-le65535.v ≡ c.loop-b.v * 10 + (get_or ds i 0 - 48) = omega (arith, w.v-is, w.from.ensures, w.saturating-sub.ensures) in
+          (let e : c.if-v-le65535.v ≡ c.loop-b.v * 10 + (get_or ds i 0 - 48) = omega (arith, w.v-is, w.from.ensures, w.saturating_sub.ensures) in
           let f : value_from c.if-v-le65535.v (drop (i + 1) ds) ≡ value ds =
           ap (λ (x : ℕ). value_from x (drop (i + 1) ds)) e ∙ (one_more ds i c.loop-b.v c.loop-b-test.true ∙ c.loop-b.invariant.0 w.if-v-le65535.true) in
           (λ _. f, λ l. omega (arith, l, f, grows c.if-v-le65535.v (drop (i + 1) ds))))

@@ -4,4 +4,4 @@ use Rattle.property.proofs.Searching.{same_decides}
 use Rattle.property.proofs.words.same.Goals as goal
 
 pub returns : goal.returns
-returns c = same_from_decides _ _ (slice_eq-Decides Decides-eqb _ _ _ c.eq.ensures) (same_decides _ _)
+returns c = same_from_decides _ _ (slice_eq-Decides Decides-eqb _ _ _ c.eq.ensures) (same_decides c.args.a.now c.args.b.now)

@@ -8,4 +8,4 @@ across : (s m n f : ℕ) → s ≡ 16 - f → m ≡ n → leb s n ≡ leb 16 (m 
 across s m n f e h = grind (arith, nat_tests)
 
 pub returns : goal.returns
-returns c = across _ _ _ _ c.saturating-sub.ensures (length-map c.args.names.now (spelled c.args.text.now))
+returns c = across _ _ _ _ c.saturating_sub.ensures (length-map c.args.names.now (spelled c.args.text.now))

@@ -3,4 +3,4 @@ use Rattle.property.specs.Views.{key_of}
 use Rattle.property.proofs.words.unheld.Goals as goal
 
 pub returns : goal.returns
-returns c = let e = c.find-register.ensures in let f = length-map c.args.registers.now (key_of c.args.text.now) in cc
+returns c = let e = c.find_register.ensures in let f = length-map c.args.registers.now (key_of c.args.text.now) in cc

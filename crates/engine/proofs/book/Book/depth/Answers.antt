@@ -3,8 +3,8 @@ use Rattle.engine.specs.Trails.{steps_to}
 use Rattle.engine.proofs.Trails.{steps_few, steps_none, read_link, read_low, read_count}
 use Rattle.engine.proofs.book.Book.depth.Goals as goal
 
-pub overflow-add-count : goal.overflow-add-count
-overflow-add-count c =
+pub overflow_add-count : goal.overflow_add-count
+overflow_add-count c =
     let few = steps_few (vec_items c.args.self.now.entries) c.args.entry in
     omega arith
 

@@ -8,8 +8,8 @@ loop-at-init c =
     let S = steps_to (vec_items c.args.self.now.entries) c.args.entry in
     (c.requires.0, c.depth-left.ensures, ([], sym (append-nil S), sym (ap (λ n. take n c.args.page.now ++ drop (length S) c.args.page.now) c.depth-left.ensures ∙ take-append-drop (length S) c.args.page.now)))
 
-pub overflow-sub-left : goal.overflow-sub-left
-overflow-sub-left c =
+pub overflow_sub-left : goal.overflow_sub-left
+overflow_sub-left c =
     let b = c.args.self.now in
     let h : 1 ≤ length (steps_to (vec_items b.entries) c.loop-at.at) = steps_some (vec_items b.entries) b.used b.linked c.loop-at.at c.loop-at-test.true c.loop-at.invariant.0 in
     omega (arith, c.loop-at.invariant.1)

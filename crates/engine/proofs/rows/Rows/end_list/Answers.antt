@@ -11,9 +11,9 @@ returns g c =
     let t = c.args.table.now in
     let P = table (vec_items t.methods) (vec_items t.constants) (vec_items t.statements) in
     let s = c.args.self.now.state in record {
-      stays = c.end-list.ensures.stays;
+      stays = c.end_list.ensures.stays;
       rules = λ k L S j F.
           let b = bounded P k s.cap (room_of (vec_items s.book.entries)) L S in
           let e : min c.args.judged 16384 ≡ length L = omega arith in
-          c.end-list.ensures.rules P k L (ap (map statement) (sym c.statements.ensures.are)) (lawful (vec_items t.methods) (vec_items t.constants) (vec_items t.statements) t.lawful) S (omega (arith, c.min.ensures)) F;
+          c.end_list.ensures.rules P k L (ap (map statement) (sym c.statements.ensures.are)) (lawful (vec_items t.methods) (vec_items t.constants) (vec_items t.statements) t.lawful) S (omega (arith, c.min.ensures)) F;
     }

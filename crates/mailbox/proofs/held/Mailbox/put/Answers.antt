@@ -22,4 +22,4 @@ returns g c =
     let q = c.args.self.now.queue in
     let n : c.len-place.result ≡ length (waits c.args.self.now) = c.len-place.ensures ∙ q.ok.0 ∙ sym (length-map q.items says) in
     let j = c.in-Ok.ensures in
-    record { put = (j.0, omega arith, one_more q.items _ c.in-Ok.event _ c.push-back-reserved.ensures.items j.1); room = refl }
+    record { put = (j.0, omega arith, one_more q.items _ c.in-Ok.event _ c.push_back_reserved.ensures.items j.1); room = refl }

@@ -5,4 +5,4 @@ use Rattle.property.proofs.draft.Draft.add_method.Goals as goal
 pub returns : goal.returns
 returns c =
     method_pushed c.args.self.now.cursor _ _ _ _ c.args.text.now c.args.self.now.word (vec_items c.args.self.now.methods) _ c.args.arity
-    c.in-ok-push.ensures.items
+    c.in_ok-push.ensures.items

@@ -9,12 +9,12 @@ returns-then-tight c =
     let f = c.args.from in
     subst (λ (b : Bool). Lexed b t f (f + 1)) (sym c.if-tight.true) (lexed_byte t f c.requires.within)
 
-pub returns-then-is-letter : goal.returns-then-is-letter
-returns-then-is-letter c =
+pub returns-then-is_letter : goal.returns-then-is_letter
+returns-then-is_letter c =
     let t = c.args.self.now.text.now in
     let f = c.args.from in
     subst (λ (b : Bool). Lexed b t f c.skip.result) (sym c.if-tight.false)
-    (lexed_word t f c.skip.result c.skip.ensures c.requires.within (sym c.is-letter.ensures ∙ c.if-is-letter.true))
+    (lexed_word t f c.skip.result c.skip.ensures c.requires.within (sym c.is_letter.ensures ∙ c.if-is_letter.true))
 
 pub returns-then-not-has : goal.returns-then-not-has
 returns-then-not-has c =
@@ -22,7 +22,7 @@ returns-then-not-has c =
     let f = c.args.from in
     subst (λ (b : Bool). Lexed b t f (f + 1)) (sym c.if-tight.false)
     (lexed_mark t f c.requires.within (c.requires.plain c.if-tight.false)
-    (wordless (get_or t f 0) (sym c.is-letter.ensures ∙ c.if-is-letter.false) (sym c.has.ensures ∙ c.if-not-has.true)))
+    (wordless (get_or t f 0) (sym c.is_letter.ensures ∙ c.if-is_letter.false) (sym c.has.ensures ∙ c.if-not-has.true)))
 
 pub returns-then-padded : goal.returns-then-padded
 returns-then-padded c =

@@ -28,8 +28,8 @@ piece-requires c =
     let h = c.start-from.ensures.high in
     record { gap = subst (λ (b : Bool). Gapped b t a f) c.tight.ensures c.start-from.ensures; within = omega (arith, h, c.if-from-self.false) }
 
-pub returns-in-err-found : goal.returns-in-err-found
-returns-in-err-found c = out _ _ _ c.in-err-found.field-0.0 c.from-residual.ensures.1 c.in-err-found.ensures
+pub returns-in_err-found : goal.returns-in_err-found
+returns-in_err-found c = out _ _ _ c.in_err-found.field-0.0 c.from_residual.ensures.1 c.in_err-found.ensures
 
 pub returns : goal.returns
-returns c = c.in-ok-found.ensures
+returns c = c.in_ok-found.ensures

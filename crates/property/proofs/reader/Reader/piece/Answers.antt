@@ -11,22 +11,22 @@ pub end-requires : goal.end-requires
 end-requires c = record { within = c.requires.within; plain = λ e. c.requires.gap.plain (sym c.tight.ensures ∙ e) c.requires.within }
 
 pub flaw-requires : goal.flaw-requires
-flaw-requires c = c.in-ok-to.ensures.high
+flaw-requires c = c.in_ok-to.ensures.high
 
 pub returns-then-not-opens : goal.returns-then-not-opens
 returns-then-not-opens c =
     let t = c.args.self.now.text.now in
     off t (view t c.args.draft.now) c.args.self.now.place c.args.from c.requires.gap c.requires.within (sym c.opens.ensures ∙ c.if-not-opens.true)
 
-pub returns-in-err-to : goal.returns-in-err-to
-returns-in-err-to c =
+pub returns-in_err-to : goal.returns-in_err-to
+returns-in_err-to c =
     let t = c.args.self.now.text.now in
     let p = view t c.args.draft.now in
     let a = c.args.self.now.place in
     let f = c.args.from in
-    let e = c.in-err-to.field-0.0 in
-    let x = c.in-err-to.ensures in
-    out _ _ _ e c.from-residual.ensures.1
+    let e = c.in_err-to.field-0.0 in
+    let x = c.in_err-to.ensures in
+    out _ _ _ e c.from_residual.ensures.1
     (at_flaw p t a e reasons.NoForm (f + 1) x.0 x.1
     (padded t p a f c.requires.gap x.3 (sym c.tight.ensures ∙ x.2) x.4 x.5 (sym c.opens.ensures ∙ c.if-not-opens.false)))
 
@@ -34,19 +34,19 @@ pub returns-in-Some : goal.returns-in-Some
 returns-in-Some c =
     let t = c.args.self.now.text.now in
     let p = view t c.args.draft.now in
-    let q = c.in-ok-to.to in
+    let q = c.in_ok-to.to in
     let f = c.args.from in
-    flawed t p c.args.self.now.place f c.requires.gap q (subst (λ (b : Bool). Lexed b t f q) c.tight.ensures c.in-ok-to.ensures)
+    flawed t p c.args.self.now.place f c.requires.gap q (subst (λ (b : Bool). Lexed b t f q) c.tight.ensures c.in_ok-to.ensures)
     (sym c.opens.ensures ∙ c.if-not-opens.false) (text_number c.in-Some.reason) (sym c.in-Some.ensures)
 
 pub returns : goal.returns
 returns c =
     let t = c.args.self.now.text.now in
     let p = view t c.args.draft.now in
-    let q = c.in-ok-to.to in
+    let q = c.in_ok-to.to in
     let f = c.args.from in
-    let x = subst (λ (b : Bool). Lexed b t f q) c.tight.ensures c.in-ok-to.ensures in
+    let x = subst (λ (b : Bool). Lexed b t f q) c.tight.ensures c.in_ok-to.ensures in
     let l = x.low in
     let h : f ≤ q = omega arith in
     read t p c.args.self.now.place f c.requires.gap q x (sym c.opens.ensures ∙ c.if-not-opens.false)
-    (record { name = record { from = f; to = q }; byte = get_or t f 0 }) refl refl refl (spelled_slice t f q h x.high) (sym c.in-default.ensures)
+    (record { name = record { from = f; to = q }; byte = get_or t f 0 }) refl refl refl (spelled_slice t f q h x.high) (sym c.in_default.ensures)

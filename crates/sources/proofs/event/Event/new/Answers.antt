@@ -10,7 +10,7 @@ copied_more held vs i v h k e t =
 
 pub loop-i-preserved : goal.loop-i-preserved
 loop-i-preserved g c =
-    let few : c.most-values.result ≤ 5 = grind arith in
+    let few : c.most_values.result ≤ 5 = grind arith in
     let h : c.loop-i.i < length c.loop-i.held = omega arith in
     let k : c.loop-i.i < length c.args.values.now = omega arith in
     (simp length-set c.loop-i.invariant.0, copied_more c.loop-i.held c.args.values.now c.loop-i.i c.index-values-i.result h k c.index-values-i.is c.loop-i.invariant.1)

@@ -9,7 +9,7 @@ returns-in-None g c =
     let k = g.K.Kind in
     let bytes = c.args.bytes.now in
     record {
-      head = ap (λ k. head_refusal k bytes) (sym c.code.ensures) ∙ sym c.head-fault.ensures ∙ c.in-None.is;
+      head = ap (λ k. head_refusal k bytes) (sym c.code.ensures) ∙ sym c.head_fault.ensures ∙ c.in-None.is;
       bytes_are = refl;
       place_is = refl;
       holds = recorded k.reads k.longest g.met.K.Kind.bounded bytes 2;

@@ -5,15 +5,15 @@ use Rattle.sources.specs.Steps.{event_told}
 use Rattle.sources.proofs.Gathered.{one_read, one_refused, all_read, event_refused, event_read}
 use Rattle.sources.proofs.journal.read.take_event.Goals as goal
 
-pub returns-in-err-take-value : goal.returns-in-err-take-value
-returns-in-err-take-value g c =
+pub returns-in_err-take_value : goal.returns-in_err-take_value
+returns-in_err-take_value g c =
     let reads = g.K.Kind.reads in
     let bytes = c.args.bytes.now in
-    let p = err_from_is_err_and c.from-residual.result c.from-residual.ensures.1 in
-    let h = c.in-err-take-value.ensures in
-    let none = one_refused reads bytes _ c.loop-i.place.at c.args.count c.loop-i.-i (says c.loop-i.event).values c.loop-i-test.true c.loop-i.invariant.3 _ h.tells in
+    let p = err_from_is_err_and c.from_residual.result c.from_residual.ensures.1 in
+    let h = c.in_err-take_value.ensures in
+    let none = one_refused reads bytes _ c.loop-i.place.at c.args.count c.loop-i._i (says c.loop-i.event).values c.loop-i-test.true c.loop-i.invariant.3 _ h.tells in
     record {
-      tells = ap (λ r. event_told r c.take-value.new.place.at) (p.1 ∙ ap Err p.2) ∙ event_refused reads bytes c.args.place.now.at c.args.count c.args.id _ none;
+      tells = ap (λ r. event_told r c.take_value.new.place.at) (p.1 ∙ ap Err p.2) ∙ event_refused reads bytes c.args.place.now.at c.args.count c.args.id _ none;
       within = h.within;
     }
 
@@ -22,12 +22,12 @@ loop-i-preserved g c =
     let reads = g.K.Kind.reads in
     let bytes = c.args.bytes.now in
     let i = c.loop-i.invariant in
-    let h = c.in-ok-take-value.ensures in
+    let h = c.in_ok-take_value.ensures in
     let n = c.push.ensures in (
       h.within,
       n.count ∙ ap (λ k. k + 1) i.1,
       ap (λ e. e.id) n.said ∙ i.2,
-      one_read reads bytes _ c.loop-i.place.at c.args.count c.loop-i.-i (says c.loop-i.event).values c.loop-i-test.true i.3 c.in-ok-take-value.field-0 c.take-value.new.place.at _ h.tells (ap (λ e. e.values) n.said),
+      one_read reads bytes _ c.loop-i.place.at c.args.count c.loop-i._i (says c.loop-i.event).values c.loop-i-test.true i.3 c.in_ok-take_value.field-0 c.take_value.new.place.at _ h.tells (ap (λ e. e.values) n.said),
     )
 
 pub returns : goal.returns
@@ -36,6 +36,6 @@ returns g c =
     let bytes = c.args.bytes.now in
     let i = c.loop-i.invariant in
     record {
-      tells = event_read reads bytes c.args.place.now.at c.args.count c.args.id (says c.loop-i.event) c.loop-i.place.at i.2 (all_read reads bytes _ c.loop-i.place.at c.args.count c.loop-i.-i (says c.loop-i.event).values c.loop-i-test.false i.3);
+      tells = event_read reads bytes c.args.place.now.at c.args.count c.args.id (says c.loop-i.event) c.loop-i.place.at i.2 (all_read reads bytes _ c.loop-i.place.at c.args.count c.loop-i._i (says c.loop-i.event).values c.loop-i-test.false i.3);
       within = i.0;
     }

@@ -8,6 +8,6 @@ returns c =
     let bytes = c.args.bytes.now in
     let p = c.args.place.now.at in
     record {
-      tells = c.advance.ensures.tells ∙ read_at number_read bytes p _ c.read-number.ensures.value;
-      within = stops_within 9 bytes p c.advance.new.place.at _ c.requires c.read-number.ensures.within c.advance.ensures.moves;
+      tells = c.advance.ensures.tells ∙ read_at number_read bytes p _ c.read_number.ensures.value;
+      within = stops_within 9 bytes p c.advance.new.place.at _ c.requires c.read_number.ensures.within c.advance.ensures.moves;
     }

@@ -11,9 +11,9 @@ returns-in-Some g c l sh =
 pub returns-in-Some-path : goal.returns-in-Some-path
 returns-in-Some-path g c l sh =
     let w = c.args.self.now in
-    path_wrote g.K.Kind.class w.table w.rows.state w.held l sh (sym c.path_reason.ensures ∙ c.in-default.is) c.args.page.now c.path.new.page c.in-Some-path.count (omega arith) c.in-Some-path.ensures
+    path_wrote g.K.Kind.class w.table w.rows.state w.held l sh (sym c.path_reason.ensures ∙ c.in_default.is) c.args.page.now c.path.new.page c.in-Some-path.count (omega arith) c.in-Some-path.ensures
 
 pub returns-in-None : goal.returns-in-None
 returns-in-None g c l sh =
     let w = c.args.self.now in
-    path_short g.K.Kind.class w.table w.rows.state w.held l sh (sym c.path_reason.ensures ∙ c.in-default.is) c.args.page.now c.path.new.page c.refuse-in-None.result c.refuse-in-None.ensures c.in-None.ensures
+    path_short g.K.Kind.class w.table w.rows.state w.held l sh (sym c.path_reason.ensures ∙ c.in_default.is) c.args.page.now c.path.new.page c.refuse-in-None.result c.refuse-in-None.ensures c.in-None.ensures

@@ -11,18 +11,18 @@ returns-then-self g c =
     let s = c.args.self.now in
     record { hands = next_end g.K.Kind.reads g.K.Kind.longest g.met.K.Kind.bounded s.bytes.now s.place.at c.if-self.true; back = tt; same = refl }
 
-pub returns-in-err-record : goal.returns-in-err-record
-returns-in-err-record g c =
+pub returns-in_err-record : goal.returns-in_err-record
+returns-in_err-record g c =
     let s = c.args.self.now in
     let t = c.record.new.self in
     let m = means g.K.Kind.reads in
-    let p = err_from_is_err_and c.from-residual.result c.from-residual.ensures.1 in
-    let h = c.in-err-record.ensures in
+    let p = err_from_is_err_and c.from_residual.result c.from_residual.ensures.1 in
+    let h = c.in_err-record.ensures in
     record {
       hands =
           subst (λ r. Next (m s.bytes.now s.place.at).waits (m s.bytes.now s.place.at).ends r (m t.bytes.now t.place.at).waits (m t.bytes.now t.place.at).ends) (sym (p.1 ∙ ap Err p.2))
           (next_refused g.K.Kind.reads g.K.Kind.longest g.met.K.Kind.bounded s.bytes.now t.bytes.now s.place.at t.place.at _ c.if-self.false (ap (λ b. b.now) h.same) h.back h.tells);
-      back = by_err _ _ c.from-residual.result _ p.1 h.back;
+      back = by_err _ _ c.from_residual.result _ p.1 h.back;
       same = ap (λ b. b.now) h.same;
     }
 
@@ -30,9 +30,9 @@ pub returns : goal.returns
 returns g c =
     let s = c.args.self.now in
     let t = c.record.new.self in
-    let h = c.in-ok-record.ensures in
+    let h = c.in_ok-record.ensures in
     record {
-      hands = next_taken g.K.Kind.reads g.K.Kind.longest g.met.K.Kind.bounded s.bytes.now t.bytes.now s.place.at t.place.at c.in-ok-record.field-0 c.if-self.false (ap (λ b. b.now) h.same) h.tells;
+      hands = next_taken g.K.Kind.reads g.K.Kind.longest g.met.K.Kind.bounded s.bytes.now t.bytes.now s.place.at t.place.at c.in_ok-record.field-0 c.if-self.false (ap (λ b. b.now) h.same) h.tells;
       back = tt;
       same = ap (λ b. b.now) h.same;
     }
