@@ -1,5 +1,5 @@
 -- What a feed and a close that the deciding rule settles do to the ledger that a watch shows.
-use Rattle.std.proofs.Common.{◌≡◌, ℕ, ◌+◌, ◌<◌, ◌≤◌, min, List, [], ◌∷◌, ◌++◌, length, Some, None, Ok, vec_items, vec_len, Option, Result, sym, refl, ap, ◌∙◌, subst, arith, length-append, Bor, MutBor}
+use Rattle.std.proofs.Common.{◌≡◌, ℕ, ◌+◌, ◌<◌, ◌≤◌, min, List, [], ◌∷◌, ◌++◌, length, Some, None, Ok, vec_items, vec_len, Option, Result, sym, refl, ap, ◌∙◌, subst, arith, length-append, Bor}
 use Rattle.kinds.specs.declared.phase.Phase.{Phase}
 use Rattle.kinds.specs.declared.phase.Phase.TheVariants.{Running, Broken, Spilled, Full, Kept}
 use Rattle.kinds.specs.declared.refusal.Layer.TheVariants.{Watch}
@@ -168,7 +168,7 @@ module _ {V : Type 0} (class : V → Class) (table : Option (Bor Table)) (s : St
   Promise P t judged world Then d = (k : Registers) (L : List T.Event) → Steady P k s.cap (room_of (vec_items s.book.entries)) L → judged ≡ length L → Follows class s P k L →
       ComesTo s t P k L (world L) d × Then t P k L
 
-  pub feed_ruled : (t : State V) (k : Held) (e : T.Event) (x : MutBor Table) (d : Ruling) (r : Result Standing Refusal) → phase_reason h.phase ≡ None → table ≡ Some x → event_reason (meant x.now) e ≡ None →
+  pub feed_ruled : (t : State V) (k : Held) (e : T.Event) (x : Bor Table) (d : Ruling) (r : Result Standing Refusal) → phase_reason h.phase ≡ None → table ≡ Some x → event_reason (meant x.now) e ≡ None →
       Stays s t d → Promise (meant x.now) t h.judged (λ L. so_far (L ++ (e ∷ []))) (λ t P k L. d ≡ GoesOn → Follows class t P k (L ++ (e ∷ []))) d → Turned h k d Event r →
       (m : Ledger) × Shows class table t k m × Feeds l e (m, told r)
   feed_ruled t k e x d r i p free stays rules u =
@@ -186,7 +186,7 @@ module _ {V : Type 0} (class : V → Class) (table : Option (Bor Table)) (s : St
       let z = turned_by run t k Event w r (omega arith) d stays came.0 (λ g v. came.1 g) u (λ o y. lasting.feed_sound l e o sh.sound (feeds o y)) in
       (z.0, z.1, feeds (z.0, told r) z.2)
 
-  pub close_ruled : (t : State V) (k : Held) (x : MutBor Table) (d : Ruling) (r : Result Standing Refusal) → phase_reason h.phase ≡ None → table ≡ Some x → Stays s t d →
+  pub close_ruled : (t : State V) (k : Held) (x : Bor Table) (d : Ruling) (r : Result Standing Refusal) → phase_reason h.phase ≡ None → table ≡ Some x → Stays s t d →
       ((k : Registers) (L : List T.Event) → Steady (meant x.now) k s.cap (room_of (vec_items s.book.entries)) L → h.judged ≡ length L → Follows class s (meant x.now) k L → ComesTo s t (meant x.now) k L (closing L) d) →
       Turned h k d End r → (m : Ledger) × Shows class table t k m × Closes l (m, told r)
   close_ruled t k x d r i p stays rules u =

@@ -1,10 +1,11 @@
 use prog.Memory.{align, size}
 use denote.Memory.{lone}
-use Rattle.std.proofs.Common.{◌≡◌, length, Some, None, sym, ap, ◌∙◌, subst}
+use Rattle.std.proofs.Common.{map, ◌≡◌, length, Some, None, sym, ap, ◌∙◌, subst}
 use Rattle.std.proofs.lemmas.List.{length-map}
 use Rattle.topl.specs.Theorems.{seen}
 use Rattle.topl.specs.Ledger.{event_reason, count_reason}
 use Rattle.engine.specs.Meant.{meant}
+use Rattle.engine.specs.Properties.{method}
 use Rattle.topl.proofs.Calls.{phase_runs}
 use Rattle.watch.specs.Shows.{Shows}
 use Rattle.watch.proofs.Deciding.{lent_one, feed_refused, feed_ruled}
@@ -22,7 +23,7 @@ returns-in-Some-event_reason g c l sh =
     let x = c.in-Some-table.table in
     let e = seen g.K.Kind.class c.args.id c.args.values.now in
     let k : event_reason (meant x.now) e ≡ Some c.in-Some-event_reason.reason =
-    ap (count_reason (meant x.now) c.args.id) (length-map c.args.values.now g.K.Kind.class) ∙ sym (c.event_reason.ensures (meant x.now) (sym c.methods.ensures)) ∙ c.in-Some-event_reason.is in
+    ap (count_reason (meant x.now) c.args.id) (length-map c.args.values.now g.K.Kind.class) ∙ sym (c.event_reason.ensures (meant x.now) (ap (map method) (sym c.methods.ensures))) ∙ c.in-Some-event_reason.is in
     feed_refused g.K.Kind.class w.table w.rows.state w.held l sh e c.in-Some-event_reason.reason x c.refuse-in-Some-event_reason.result (sym c.phase_reason.ensures ∙ c.in_default.is) c.in-Some-table.is k c.refuse-in-Some-event_reason.ensures
 
 pub returns : goal.returns
@@ -31,7 +32,7 @@ returns g c l sh =
     let x = c.in-Some-table.table in
     let e = seen g.K.Kind.class c.args.id c.args.values.now in
     let k : event_reason (meant x.now) e ≡ None =
-    ap (count_reason (meant x.now) c.args.id) (length-map c.args.values.now g.K.Kind.class) ∙ sym (c.event_reason.ensures (meant x.now) (sym c.methods.ensures)) ∙ c.in_default-event_reason.is in
+    ap (count_reason (meant x.now) c.args.id) (length-map c.args.values.now g.K.Kind.class) ∙ sym (c.event_reason.ensures (meant x.now) (ap (map method) (sym c.methods.ensures))) ∙ c.in_default-event_reason.is in
     let d = c.take_event-ruling in
     let z = feed_ruled g.K.Kind.class w.table w.rows.state w.held l sh d.new.self.state c.turn.new.self.held e x d.result c.turn.result
     (sym c.phase_reason.ensures ∙ c.in_default.is) c.in-Some-table.is k d.ensures.stays d.ensures.rules c.turn.ensures.0 in (
