@@ -50,25 +50,25 @@ returns-in-Verdict g c l sh =
 
 pub returns-in-Ok : goal.returns-in-Ok
 returns-in-Ok g c l sh =
-    let after = vec_items (with_items c.in_ok-page.page c.path.new.page) in
-    let e : after ≡ c.path.new.page = with_items_is c.in_ok-page.page c.path.new.page (omega arith) in
-    let v : c.deref_mut.result.now ≡ c.in-Path.bytes.now = c.deref_mut.ensures.value ∙ c.in_ok-page.ensures.items in (
+    let after = vec_items (with_items c.in_ok-page-in-Path.page c.path.new.page) in
+    let e : after ≡ c.path.new.page = with_items_is c.in_ok-page-in-Path.page c.path.new.page (omega arith) in
+    let v : c.deref_mut.result.now ≡ c.in-Path.bytes.now = c.deref_mut.ensures.value ∙ c.in_ok-page-in-Path.ensures.items in (
       l,
       sh,
-      path_at g.K.Kind.class l l (meant g.K.Kind.class g.S.Source.waiting g.S.Source.ending c.args.sources.now) c.args.call (Wrote c.in-Ok.count (with_items c.in_ok-page.page c.path.new.page)) (wrote c.in-Ok.count after) refl c.in-Path.bytes c.in-Path.is
+      path_at g.K.Kind.class l l (meant g.K.Kind.class g.S.Source.waiting g.S.Source.ending c.args.sources.now) c.args.call (Wrote c.in-Ok.count (with_items c.in_ok-page-in-Path.page c.path.new.page)) (wrote c.in-Ok.count after) refl c.in-Path.bytes c.in-Path.is
           (ap (wrote c.in-Ok.count) e ∙ c.in-Ok.ensures l sh ∙ ap (path_on l) v),
     )
 
 pub returns-in-Err : goal.returns-in-Err
 returns-in-Err g c l sh =
-    let after = vec_items (with_items c.in_ok-page.page c.path.new.page) in
-    let e : after ≡ c.path.new.page = with_items_is c.in_ok-page.page c.path.new.page (omega arith) in
-    let v : c.deref_mut.result.now ≡ c.in-Path.bytes.now = c.deref_mut.ensures.value ∙ c.in_ok-page.ensures.items in (
+    let after = vec_items (with_items c.in_ok-page-in-Path.page c.path.new.page) in
+    let e : after ≡ c.path.new.page = with_items_is c.in_ok-page-in-Path.page c.path.new.page (omega arith) in
+    let v : c.deref_mut.result.now ≡ c.in-Path.bytes.now = c.deref_mut.ensures.value ∙ c.in_ok-page-in-Path.ensures.items in (
       l,
       sh,
-      path_at g.K.Kind.class l l (meant g.K.Kind.class g.S.Source.waiting g.S.Source.ending c.args.sources.now) c.args.call (Unwritten c.in-Err.f (with_items c.in_ok-page.page c.path.new.page)) (unwritten c.in-Err.f after) refl c.in-Path.bytes c.in-Path.is
+      path_at g.K.Kind.class l l (meant g.K.Kind.class g.S.Source.waiting g.S.Source.ending c.args.sources.now) c.args.call (Unwritten c.in-Err.f (with_items c.in_ok-page-in-Path.page c.path.new.page)) (unwritten c.in-Err.f after) refl c.in-Path.bytes c.in-Path.is
           (ap (unwritten c.in-Err.f) e ∙ c.in-Err.ensures l sh ∙ ap (path_on l) v),
     )
 
-pub returns-in_err-page : goal.returns-in_err-page
-returns-in_err-page g c = MatchResult-from_err c.from_residual.result _ _ c.from_residual.ensures.0 (λ y. refl)
+pub returns-in_err-page-in-Path : goal.returns-in_err-page-in-Path
+returns-in_err-page-in-Path g c = MatchResult-from_err c.from_residual.result _ _ c.from_residual.ensures.0 (λ y. refl)
