@@ -1,5 +1,5 @@
 -- The listing of a journal.
-use Rattle.std.specs.Prelude.{◌≡◌, ℕ, Bool, true, false, cond, List, [], ◌∷◌, ◌++◌, map, length, take, Some, None, codes, decimal, Option, Result, ◌==◌, slice_index}
+use Rattle.std.specs.Prelude.{◌≡◌, ℕ, cond, List, [], ◌∷◌, ◌++◌, map, length, take, Some, None, codes, decimal, Option, Result, ◌==◌, slice_index}
 use Rattle.kinds.specs.declared.refusal.Ending.{Ending}
 use Rattle.kinds.specs.declared.refusal.Ending.TheVariants.{End, Refused}
 use Rattle.kinds.specs.declared.refusal.Fault.{Fault}

@@ -1,9 +1,9 @@
 -- From one list of events to the next.
-use Rattle.std.proofs.Common.{◌≡◌, ℕ, suc, ◌+◌, ◌-◌, ◌*◌, ◌%◌, ◌<◌, ◌≤◌, List, [], ◌∷◌, ◌++◌, length, take, drop, vec_items, sym, refl, ap, ◌∙◌, subst, arith, length-append, length-drop}
+use Rattle.std.proofs.Common.{◌≡◌, ℕ, suc, ◌+◌, ◌-◌, ◌%◌, ◌≤◌, List, [], ◌∷◌, ◌++◌, length, drop, vec_items, sym, ap, ◌∙◌, subst, arith, length-append, length-drop}
 use Rattle.std.proofs.lemmas.List.{drop-append-le, length-take-le}
 use Rattle.topl.specs.Lists.{Class}
 use Rattle.topl.specs.Table as T
-use Rattle.topl.specs.Runs.{Registers, World, so_far, closing}
+use Rattle.topl.specs.Runs.{Registers, so_far}
 use Rattle.topl.specs.Deciding.{sum, count}
 use Rattle.engine.specs.declared.front.Ruling.{Ruling}
 use Rattle.engine.specs.declared.front.Ruling.TheVariants.{GoesOn}
@@ -13,7 +13,7 @@ use Rattle.engine.specs.Fronts.{Grid}
 use Rattle.engine.specs.Fills.{Tracked}
 use Rattle.engine.specs.Judging.{Held, Decided}
 use Rattle.engine.specs.Windows.{Remembers}
-use Rattle.engine.specs.States.{grid_of, Follows, ComesTo}
+use Rattle.engine.specs.States.{grid_of, Follows}
 
 -- the events of a window with one more
 pub remembers_more : {V : Type 0} (class : V → Class) (W : Window V) (L : List T.Event) (e : T.Event) → Remembers class W (drop (length L - 3) L ++ e ∷ []) → Remembers class W (drop (length L - 3) (L ++ e ∷ []))

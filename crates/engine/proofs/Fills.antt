@@ -1,5 +1,5 @@
 -- How a row fills, and its entries with it.
-use Rattle.std.proofs.Common.{◌≡◌, ℕ, zero, suc, ◌+◌, ◌-◌, ◌*◌, ◌<◌, ◌≤◌, Bool, true, false, cond, ◌&&◌, ◌||◌, List, [], ◌∷◌, ◌++◌, length, get_or, drop, Some, None, Option, sym, refl, ap, ◌∙◌, subst, ap₂, ⊎_elim, append_assoc, arith}
+use Rattle.std.proofs.Common.{◌≡◌, ℕ, suc, ◌+◌, ◌*◌, ◌<◌, ◌≤◌, Bool, true, false, cond, ◌&&◌, List, [], ◌∷◌, ◌++◌, length, get_or, drop, Some, None, Option, sym, refl, ap, ◌∙◌, subst, ⊎_elim, append_assoc, arith}
 use Rattle.std.proofs.lemmas.List.{append-nil, get_or_append_left, get_or_push}
 use Rattle.std.proofs.lemmas.Bool.{or_right, or_from, cases_lt, cond-false, ne_eqb, and_right}
 use Rattle.topl.specs.Lists.{Class, holds}
@@ -7,13 +7,10 @@ use Rattle.topl.specs.Table as T
 use Rattle.topl.specs.Runs.{Configuration, Registers, World, Reach, first_configuration, alikeᶜ, has_come, quiet, skips}
 use Rattle.topl.specs.Rows.{Filled, landed}
 use Rattle.topl.specs.Deciding.{any_error}
-use Rattle.topl.specs.Theorems.{ErrsBy}
 use Rattle.topl.proofs.Loops.{filled_added, filled_held, filled_spilled, error_append}
 use Rattle.engine.specs.declared.entry.Entry.{Entry}
-use Rattle.engine.specs.declared.front.Front.{Front}
-use Rattle.engine.specs.declared.front.Arrival.TheVariants as AV
 use Rattle.engine.specs.Trails.{steps_to, steps_by, room_of}
-use Rattle.engine.specs.Fronts.{row_at, count_at, entries_at, Grid, grid, Room, Below, Comes, Arrives, Spares}
+use Rattle.engine.specs.Fronts.{row_at, count_at, entries_at, Grid, grid, Room, Comes}
 use Rattle.engine.specs.Fills.{Tracked, Fits, Grows, Brought, Safe}
 use Rattle.engine.proofs.Fronts.{length_row_at, length_entries, entry_read}
 

@@ -1,12 +1,12 @@
 -- Patterns against places, one by one.
-use Rattle.std.proofs.Common.{◌≡◌, ℕ, zero, suc, ◌+◌, ◌-◌, ◌*◌, ◌<◌, ◌≤◌, Bool, true, false, cond, not, ◌&&◌, eqb, List, [], ◌∷◌, ◌++◌, map, length, get_or, take, drop, set, Decides, sym, refl, ap, ◌∙◌, subst, ap₂, add-one, arith}
-use Rattle.std.proofs.lemmas.List.{get_or-map, drop_more, length-map, get_or_read, drop_all, map-set, get_or_default}
+use Rattle.std.proofs.Common.{◌≡◌, ℕ, ◌+◌, ◌<◌, ◌≤◌, Bool, true, false, ◌&&◌, eqb, List, [], ◌∷◌, map, length, get_or, drop, Decides, sym, ap, ◌∙◌, subst, add-one}
+use Rattle.std.proofs.lemmas.List.{get_or-map, drop_more, length-map, drop_all}
 use Rattle.topl.specs.Lists.{Class, nothing}
 use Rattle.std.proofs.lemmas.Bool.{and_right, and_from, eq-eqb}
 use Rattle.topl.specs.Table.{at, Event, places as places', event_of}
 use Rattle.topl.specs.Runs.{Registers, fits, written, fits_all, written_all, meets, writes}
 use Rattle.engine.specs.declared.table.Pattern.{Pattern}
-use Rattle.engine.specs.declared.table.Pattern.TheVariants.{Any, Write, Same, Differs}
+use Rattle.engine.specs.declared.table.Pattern.TheVariants.{Any}
 use Rattle.topl.specs.Lists.{same_class}
 use Rattle.topl.proofs.Basics.{same_tests, bool_same}
 use Rattle.engine.specs.Views.{pattern, Shown}

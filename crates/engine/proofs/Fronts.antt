@@ -1,15 +1,15 @@
 -- Laws of rows.
-use Rattle.std.proofs.Common.{◌≡◌, ℕ, zero, suc, ◌+◌, ◌-◌, ◌*◌, ◌<◌, ◌≤◌, false, ◌≢◌, ◌⊎◌, List, [], ◌∷◌, ◌++◌, map, length, get_or, take, drop, set, sym, refl, ap, ◌∙◌, subst, ap₂, inl, inr, ⊎_elim, append_assoc, add_assoc, mul-le-mul_right, add-mul, arith, length-append, length-drop, length-take, take-add}
+use Rattle.std.proofs.Common.{◌≡◌, ℕ, zero, suc, ◌+◌, ◌-◌, ◌*◌, ◌<◌, ◌≤◌, false, List, [], ◌∷◌, ◌++◌, length, get_or, take, drop, set, sym, refl, ap, ◌∙◌, subst, ap₂, ⊎_elim, append_assoc, add_assoc, mul-le-mul_right, add-mul, arith, length-drop, length-take, take-add}
 use lib.Seq.{paste, take-paste, drop-paste, length-paste}
 use borrow.Rule.Slice.PartMut.{put_mid}
-use Rattle.std.proofs.lemmas.List.{drop-set-add, drop-set-lt, take-set-le, take_more_set, get_or-set_same, get_or-set_other, take-take, drop-take, drop-drop, take-append-drop, drop-append-le, take-append-le, length-take-le, drop_at, take_all, append-nil, length_push, drop_all, length-set, get_or-take, get_or-drop}
+use Rattle.std.proofs.lemmas.List.{drop-set-add, drop-set-lt, take-set-le, take_more_set, get_or-set_same, get_or-set_other, take-take, drop-take, drop-drop, take-append-drop, drop-append-le, take-append-le, length-take-le, drop_at, take_all, length-set, get_or-take, get_or-drop}
 use Rattle.std.proofs.lemmas.Bool.{cases_lt, cases_eq}
 use Rattle.topl.specs.Lists.{Class, holds}
 use Rattle.topl.specs.Runs.{Configuration, alikeᶜ}
 use Rattle.engine.specs.declared.front.Front.{Front}
 use Rattle.engine.specs.declared.entry.Entry.{Entry}
 use Rattle.engine.specs.Trails.{Enters}
-use Rattle.engine.specs.Fronts.{Added, count_at, states_at, entries_at, configuration, row, row_at, stored, Grid, grid, Below, Room, Comes}
+use Rattle.engine.specs.Fronts.{Added, count_at, states_at, entries_at, configuration, row, row_at, Grid, grid, Below, Room, Comes}
 
 module _ (xs : List ℕ) (s n x : ℕ) where
   states_here : 64 * s + n < length xs → take (n + 1) (drop (64 * s) (set xs (64 * s + n) x)) ≡ take n (drop (64 * s) xs) ++ x ∷ []

@@ -1,21 +1,18 @@
 -- What is held before the first event.
-use Rattle.std.proofs.Common.{◌≡◌, ℕ, zero, suc, ◌+◌, ◌-◌, ◌*◌, ◌%◌, ◌<◌, ◌≤◌, Bool, true, false, List, [], ◌∷◌, ◌++◌, map, length, get_or, take, drop, set, replicate, vec_items, sym, refl, ap, ◌∙◌, subst, ap₂, arith}
+use Rattle.std.proofs.Common.{◌≡◌, ℕ, ◌+◌, ◌*◌, ◌%◌, ◌<◌, ◌≤◌, List, [], ◌∷◌, ◌++◌, map, length, get_or, take, drop, set, sym, refl, ap, ◌∙◌, subst, ap₂, arith}
 use lib.Seq.{paste}
 use Rattle.std.proofs.lemmas.List.{take-take, take-append-le, take_all, length-append, drop_more, drop_all, length-map, map-set}
 use Rattle.topl.specs.Lists.{Class, holds, apart}
 use Rattle.topl.specs.Table as T
-use Rattle.topl.specs.Runs.{Registers, Configuration, Reach, at_start, first_configuration, so_far, runs, reached, alikeᶜ}
-use Rattle.topl.specs.Rows.{Stands}
+use Rattle.topl.specs.Runs.{Registers, Reach, at_start, first_configuration, so_far, runs, reached, alikeᶜ}
 use Rattle.topl.specs.Deciding.{count}
 use Rattle.topl.specs.Ledger.{sets}
 use Rattle.engine.specs.declared.entry.Entry.{Entry}
 use Rattle.engine.specs.declared.front.Front.{Front}
-use Rattle.engine.specs.declared.state.State.{State}
 use Rattle.engine.specs.Trails.{steps_to}
-use Rattle.engine.specs.Fronts.{configuration, row, row_at, count_at, states_at, entries_at, Added, Bare, Below, Grid, grid, Room}
+use Rattle.engine.specs.Fronts.{configuration, row, row_at, count_at, entries_at, Added, Bare, Below, Grid, grid, Room}
 use Rattle.engine.specs.Fills.{Tracked}
 use Rattle.engine.specs.Judging.{Held}
-use Rattle.engine.specs.States.{grid_of, Follows}
 use Rattle.engine.proofs.Fits.{class_read}
 use Rattle.engine.proofs.Trails.{steps_none}
 use Rattle.engine.proofs.Fronts.{added_here, added_room}

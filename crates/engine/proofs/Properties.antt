@@ -1,7 +1,7 @@
 -- What a lawful table gives to code.
-use Rattle.std.proofs.Common.{◌≡◌, ℕ, ◌≤◌, Bool, true, ◌&&◌, ltb, leb, List, map, length, sym, ap, ◌∙◌, subst, arith}
+use Rattle.std.proofs.Common.{◌≡◌, ℕ, ◌≤◌, true, ltb, List, length, arith}
 use Rattle.std.proofs.lemmas.List.{length-map}
-use Rattle.topl.specs.Lists.{every, ◌∈◌}
+use Rattle.topl.specs.Lists.{every}
 use Rattle.topl.specs.Table as T
 use Rattle.topl.proofs.Lawful.{tested, every_complete}
 use Rattle.std.proofs.lemmas.Bool.{lt-ltb}

@@ -1,5 +1,5 @@
 -- What the tests of a table give.
-use Rattle.std.proofs.Common.{◌≡◌, ℕ, zero, suc, ◌+◌, ◌-◌, ◌*◌, ◌<◌, ◌≤◌, Bool, true, false, cond, not, ◌&&◌, eqb, ltb, leb, List, [], ◌∷◌, ◌++◌, map, length, get_or, take, drop, sym, refl, ap, ◌∙◌, subst, arith}
+use Rattle.std.proofs.Common.{◌≡◌, ℕ, zero, suc, ◌+◌, ◌<◌, ◌≤◌, Bool, true, ◌&&◌, eqb, leb, List, [], ◌∷◌, length, get_or, take, drop, sym, refl, ap, ◌∙◌, arith}
 use Rattle.std.proofs.lemmas.Bool.{and_parts, ltb-true, leb-true, eqb-true}
 use Rattle.std.proofs.lemmas.List.{get_or-map, drop_more, length-map, length-take-le, get_or-take, drop_all}
 use Rattle.topl.specs.Lists.{every}
@@ -10,7 +10,7 @@ use Rattle.engine.specs.declared.table.Guard.{Guard}
 use Rattle.engine.specs.declared.table.Matcher as M
 use Rattle.engine.specs.declared.table.Matcher.TheVariants as MV
 use Rattle.engine.specs.declared.table.Statement.{Statement}
-use Rattle.engine.specs.Views.{pattern, guards, matcher, listed, statement, Within, Inside, within, inside, sound}
+use Rattle.engine.specs.Views.{guards, matcher, listed, statement, Within, Inside, within, inside, sound}
 
 pub every_at : {X : Type 0} (test : X → Bool) (d : X) (xs : List X) (i : ℕ) → test d ≡ true → every test xs ≡ true → test (get_or xs i d) ≡ true
 every_at test d [] i e h = e

@@ -1,5 +1,5 @@
 -- What a feed or a close starts from, while a watch runs.
-use Rattle.std.proofs.Common.{◌≡◌, ℕ, suc, ◌+◌, ◌-◌, ◌*◌, ◌%◌, ◌<◌, ◌≤◌, Bool, true, false, List, [], ◌∷◌, ◌++◌, length, get_or, take, drop, sym, refl, ap, ◌∙◌, subst, ⊎_elim, arith, length-append}
+use Rattle.std.proofs.Common.{◌≡◌, ℕ, suc, ◌-◌, ◌*◌, ◌%◌, ◌≤◌, true, false, List, [], ◌∷◌, ◌++◌, length, get_or, take, drop, sym, refl, ap, ◌∙◌, subst, ⊎_elim, arith, length-append}
 use Rattle.std.proofs.lemmas.List.{nil_from_length}
 use Rattle.std.proofs.lemmas.Bool.{cases_Bool, cases_eq}
 use Rattle.topl.specs.Lists.{Class, holds, apart}
@@ -16,7 +16,7 @@ use Rattle.topl.proofs.Step.{stepping}
 use Rattle.topl.proofs.Resume.{watching, beyond}
 use Rattle.engine.specs.declared.front.Front.{Front}
 use Rattle.engine.specs.Trails.{room_of, steps_to}
-use Rattle.engine.specs.Fronts.{count_at, states_at, entries_at, row_at, row, Grid, grid, Room, Cleared, Below}
+use Rattle.engine.specs.Fronts.{count_at, entries_at, row_at, row, Grid, grid, Room, Cleared, Below}
 use Rattle.engine.specs.Fills.{Tracked}
 use Rattle.engine.specs.Judging.{Held, Start}
 

@@ -1,5 +1,5 @@
 -- The statements of a table, one by one.
-use Rattle.std.proofs.Common.{◌≡◌, ℕ, zero, suc, ◌+◌, ◌<◌, ◌≤◌, List, [], ◌∷◌, map, length, get_or, sym, refl, ap, ◌∙◌, arith}
+use Rattle.std.proofs.Common.{◌≡◌, ℕ, zero, suc, ◌+◌, ◌<◌, List, [], ◌∷◌, map, length, get_or, sym, refl, ap, ◌∙◌, arith}
 use mathlib.Core.List.Memᴰ
 use Rattle.std.proofs.lemmas.List.{get_or-map, length-map}
 use Rattle.topl.specs.Lists.{◌∈◌}
@@ -13,10 +13,10 @@ number_at n [] i d l = absurd (omega arith)
 number_at n (t ∷ ts) zero d l = omega arith
 number_at n (t ∷ ts) (suc i) d l = let e = number_at (suc n) ts i d (omega arith) in omega arith
 
-pub getD-∈ : {X : Type 0} (xs : List X) (i : ℕ) (d : X) → i < length xs → get_or xs i d ∈ xs
-getD-∈ [] i d l = absurd (omega arith)
-getD-∈ (x ∷ xs) zero d l = Memᴰ.head refl
-getD-∈ (x ∷ xs) (suc i) d l = Memᴰ.tail (getD-∈ xs i d (omega arith))
+pub get_or-∈ : {X : Type 0} (xs : List X) (i : ℕ) (d : X) → i < length xs → get_or xs i d ∈ xs
+get_or-∈ [] i d l = absurd (omega arith)
+get_or-∈ (x ∷ xs) zero d l = Memᴰ.head refl
+get_or-∈ (x ∷ xs) (suc i) d l = Memᴰ.tail (get_or-∈ xs i d (omega arith))
 
 module _ (P : T.Table) (ts : List Statement) (e : P.statements ≡ map statement ts) where
   long : length P.statements ≡ length ts

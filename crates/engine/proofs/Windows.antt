@@ -1,7 +1,7 @@
 -- The window of events: what a shift and a write leave.
-use Rattle.std.proofs.Common.{◌≡◌, ℕ, zero, suc, ◌+◌, ◌-◌, ◌*◌, ◌<◌, ◌≤◌, cond, eqb, List, [], ◌∷◌, ◌++◌, map, length, get_or, take, drop, set, sym, refl, ap, ◌∙◌, subst, ap₂, ⊎_elim, append_assoc, add-one, arith, length-append, length-drop, length-take, get_or-append-add}
+use Rattle.std.proofs.Common.{◌≡◌, ℕ, zero, suc, ◌+◌, ◌-◌, ◌*◌, ◌<◌, ◌≤◌, cond, List, [], ◌∷◌, ◌++◌, length, get_or, take, drop, set, sym, refl, ap, ◌∙◌, subst, ap₂, ⊎_elim, append_assoc, add-one, arith, length-append, length-drop, get_or-append-add}
 use lib.Seq.{set_at, take-paste, paste, paste-suc}
-use Rattle.std.proofs.lemmas.List.{length-take-le, get_or-drop, get_or-take, take_more, drop_more, drop-drop, drop-take, take_all, append-nil, get_or_append_left, get_or_push, drop-append-le, take-append-le, take_more_set, drop_all, get_or_default, length_push, drop_at}
+use Rattle.std.proofs.lemmas.List.{length-take-le, get_or-drop, take_more, drop_more, drop-drop, take_all, get_or_append_left, get_or_push, drop-append-le, take-append-le, take_more_set, length_push, drop_at}
 use Rattle.std.proofs.lemmas.Bool.{cases_lt}
 use Rattle.topl.specs.Lists.{Class}
 use Rattle.topl.specs.Table as T
@@ -9,15 +9,9 @@ use Rattle.topl.specs.Theorems.{seen, value_places}
 use Rattle.topl.proofs.Placed.{placed}
 use Rattle.engine.specs.Views.{Shown, Seen}
 
--- no value stands past the end
-pub get_d_past : {X : Type 0} (xs : List X) (i : ℕ) (d : X) → length xs ≤ i → get_or xs i d ≡ d
-get_d_past [] i d l = refl
-get_d_past (x ∷ xs) zero d l = absurd (omega arith)
-get_d_past (x ∷ xs) (suc i) d l = get_d_past xs i d (omega arith)
-
-pub getD_later : {X : Type 0} (x : X) (xs : List X) (i : ℕ) (d : X) → (i ≡ 0 → ⊥) → get_or xs (i - 1) d ≡ get_or (x ∷ xs) i d
-getD_later x xs zero d n = absurd (n refl)
-getD_later x xs (suc i) d n = ap (λ (z : ℕ). get_or xs z d) (let z : suc i - 1 ≡ i = omega arith in z)
+pub get_or_later : {X : Type 0} (x : X) (xs : List X) (i : ℕ) (d : X) → (i ≡ 0 → ⊥) → get_or xs (i - 1) d ≡ get_or (x ∷ xs) i d
+get_or_later x xs zero d n = absurd (n refl)
+get_or_later x xs (suc i) d n = ap (λ (z : ℕ). get_or xs z d) (let z : suc i - 1 ≡ i = omega arith in z)
 
 pub take_few : {X : Type 0} (n : ℕ) (xs : List X) (m : ℕ) → n ≤ m → length (take n xs) ≤ m
 take_few zero xs m l = omega arith

@@ -1,6 +1,6 @@
 -- What moves bring to a position, and what the code then holds of it.
-use Rattle.std.specs.Prelude.{◌≡◌, ℕ, zero, suc, ◌+◌, ◌-◌, ◌*◌, ◌%◌, ◌<◌, ◌≤◌, Bool, true, false, List, [], ◌∷◌, ◌++◌, map, length, drop, Some, None, Option, slice_index, slice_index_or}
-use Rattle.topl.specs.Lists.{Class, every, holds, apart}
+use Rattle.std.specs.Prelude.{◌≡◌, ℕ, ◌+◌, ◌-◌, ◌*◌, ◌%◌, ◌<◌, ◌≤◌, Bool, true, false, List, [], ◌++◌, map, length, drop, Some, None, Option, slice_index, slice_index_or}
+use Rattle.topl.specs.Lists.{Class, every, apart}
 use Rattle.topl.specs.Table as T
 use Rattle.topl.specs.Runs.{Configuration, Mode, settled, closed, World, so_far, Registers, Reach, first_configuration, reached, alikeᶜ}
 use Rattle.topl.specs.Rows.{Stands, Filled}
@@ -10,7 +10,6 @@ use Rattle.engine.specs.declared.entry.Entry.{Entry}
 use Rattle.engine.specs.declared.scene.Scene.{Scene}
 use Rattle.engine.specs.declared.front.Filling.{Filling}
 use Rattle.engine.specs.declared.front.Filling.TheVariants.{Broken, Spilled, Stands as Stands'}
-use Rattle.engine.specs.declared.front.Front.{Front}
 use Rattle.engine.specs.Views.{statement, sound, Seen}
 use Rattle.engine.specs.Trails.{steps_to, steps_by, room_of}
 use Rattle.engine.specs.Fronts.{row_at, count_at, entries_at, Grid, Room, Others, Spares}

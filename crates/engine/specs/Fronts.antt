@@ -1,7 +1,7 @@
 -- Rows of configurations as the code holds them.
-use Rattle.std.specs.Prelude.{◌≡◌, ℕ, zero, suc, ◌+◌, ◌-◌, ◌*◌, ◌<◌, ◌≤◌, Bool, true, false, List, [], ◌∷◌, ◌++◌, map, length, take, drop, ◌≢◌, slice_index}
+use Rattle.std.specs.Prelude.{◌≡◌, ℕ, ◌+◌, ◌*◌, ◌<◌, ◌≤◌, true, false, List, [], ◌∷◌, ◌++◌, map, length, take, drop, ◌≢◌, slice_index}
 use Rattle.std.proofs.Math.Seq.{paste}
-use Rattle.topl.specs.Lists.{Class, holds, apart}
+use Rattle.topl.specs.Lists.{Class, holds}
 use Rattle.topl.specs.Runs.{Configuration, alikeᶜ}
 use Rattle.engine.specs.declared.entry.Entry.{Entry}
 use Rattle.engine.specs.declared.front.Front.{Front}

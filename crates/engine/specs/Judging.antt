@@ -1,5 +1,5 @@
 -- The deciding rule as the code comes to it.
-use Rattle.std.specs.Prelude.{◌≡◌, ℕ, zero, suc, ◌+◌, ◌-◌, ◌*◌, ◌%◌, ◌<◌, ◌≤◌, true, false, List, length, Some, None, Option}
+use Rattle.std.specs.Prelude.{◌≡◌, ℕ, zero, suc, ◌+◌, ◌-◌, ◌%◌, ◌<◌, ◌≤◌, true, false, List, length, Some, None, Option}
 use Rattle.topl.specs.Lists.{Class, apart}
 use Rattle.topl.specs.Table as T
 use Rattle.topl.specs.Runs.{Registers, World, so_far, alikeᶜ}

@@ -1,12 +1,12 @@
 -- What a watch holds, and what it shows of a list of events.
-use Rattle.std.specs.Prelude.{◌≡◌, ℕ, suc, ◌+◌, ◌-◌, ◌*◌, ◌%◌, ◌<◌, ◌≤◌, List, [], ◌∷◌, ◌++◌, length, take, drop, vec_items, vec_len}
+use Rattle.std.specs.Prelude.{◌≡◌, ℕ, suc, ◌-◌, ◌*◌, ◌%◌, ◌<◌, ◌≤◌, List, length, take, drop, vec_items, vec_len}
 use Rattle.topl.specs.Lists.{Class}
 use Rattle.topl.specs.Table as T
 use Rattle.topl.specs.Runs.{Registers, World, so_far}
 use Rattle.topl.specs.Deciding as D
 use Rattle.engine.specs.declared.entry.Entry.{Entry}
 use Rattle.engine.specs.declared.front.Ruling.{Ruling}
-use Rattle.engine.specs.declared.front.Ruling.TheVariants.{Breaks, GoesOn}
+use Rattle.engine.specs.declared.front.Ruling.TheVariants.{Breaks}
 use Rattle.engine.specs.declared.state.State.{State}
 use Rattle.engine.specs.Trails.{room_of}
 use Rattle.engine.specs.Fronts.{Grid, grid, Room}

@@ -1,5 +1,5 @@
 -- What the code's statements and events stand for in the theory.
-use Rattle.std.specs.Prelude.{◌≡◌, ℕ, zero, suc, ◌+◌, ◌-◌, ◌*◌, ◌<◌, ◌≤◌, Bool, true, cond, not, ◌&&◌, List, [], ◌∷◌, ◌++◌, map, length, take, drop, ◌==◌, nat_le, nat_lt, slice_index, slice_index_or}
+use Rattle.std.specs.Prelude.{◌≡◌, ℕ, ◌*◌, ◌<◌, ◌≤◌, Bool, true, ◌&&◌, List, [], map, length, take, drop, ◌==◌, nat_le, nat_lt, slice_index, slice_index_or}
 use Rattle.topl.specs.Lists.{Class, every}
 use Rattle.topl.specs.Table as T
 use Rattle.topl.specs.Runs as R

@@ -1,5 +1,5 @@
 -- The events that a window shows.
-use Rattle.std.specs.Prelude.{◌≡◌, ℕ, ◌*◌, List, length, take}
+use Rattle.std.specs.Prelude.{◌≡◌, ◌*◌, List, length, take}
 use Rattle.topl.specs.Lists.{Class}
 use Rattle.topl.specs.Table as T
 use Rattle.engine.specs.declared.window.Window.{Window}

@@ -1,13 +1,13 @@
 -- Reading piece by piece: how a piece carries on, and what each way to stop says of the text.
-use Rattle.std.proofs.Common.{◌≡◌, ℕ, zero, suc, ◌+◌, ◌<◌, ◌≤◌, Bool, true, false, ◌⊎◌, List, [], ◌∷◌, ◌++◌, length, Some, None, Option, sym, refl, ap, ◌∙◌, subst, inl, inr, append_assoc, append-nil, arith, length-append}
+use Rattle.std.proofs.Common.{◌≡◌, ℕ, ◌+◌, ◌<◌, ◌≤◌, Bool, true, false, ◌⊎◌, List, [], ◌∷◌, ◌++◌, length, Some, None, Option, sym, refl, ap, ◌∙◌, subst, inl, inr, append_assoc, append-nil, arith, length-append}
 use Rattle.std.proofs.lemmas.Bool.{cases_Bool, cases_lt}
-use Rattle.forms.specs.Bytes.{space, digit, letter, wordy, Every, Stops, Decimal}
-use Rattle.forms.specs.Forms.{Form, Viable, Dead, Misfit, Flawed, Refused, Accepted, Before}
-use Rattle.forms.specs.Grammars.{Grammar, Takes, stop, go, Faults, here, later, short, form, Closed, Lives, Lawful}
+use Rattle.forms.specs.Bytes.{space, digit, letter, wordy, Every, Stops}
+use Rattle.forms.specs.Forms.{Form, Viable, Dead, Misfit, Refused, Accepted}
+use Rattle.forms.specs.Grammars.{Grammar, Takes, stop, go, Faults, here, later, short, form, Closed, Lawful}
 use Rattle.forms.specs.Pieces.{Piece, word, number, mark, head_of, Stands, Next, Comes}
 use Rattle.forms.specs.Steps.{SameHead, Step}
-use Rattle.forms.proofs.Laws.{apart, nil_cons, head_eq, tail_eq, run_unique, stops_head, head_self, no_misfit, past_viable}
-use Rattle.forms.proofs.Lexing.{begins, next_unique, every_left, every_right, every_both, piece_stops, digit_stops}
+use Rattle.forms.proofs.Laws.{apart, head_eq, run_unique, stops_head, head_self, no_misfit, past_viable}
+use Rattle.forms.proofs.Lexing.{begins, next_unique, every_right, every_both, piece_stops, digit_stops}
 
 -- Something is not nothing.
 pub some_none : {A B : Type 0} (o : Option A) (x : A) → o ≡ Some x → o ≡ None → B

@@ -1,10 +1,10 @@
 -- A text has one next piece.
-use Rattle.std.proofs.Common.{◌≡◌, ℕ, zero, suc, ◌+◌, ◌<◌, ◌≤◌, Bool, true, false, ◌&&◌, ◌||◌, eqb, leb, ◌⊎◌, List, [], ◌∷◌, ◌++◌, length, sym, refl, ap, ◌∙◌, subst, inl, inr, append_assoc, append-nil, arith}
-use Rattle.std.proofs.lemmas.Bool.{eqb-true, cases_Bool, true≢false}
+use Rattle.std.proofs.Common.{◌≡◌, ℕ, Bool, true, false, List, [], ◌∷◌, ◌++◌, sym, refl, ap, ◌∙◌, subst, inl, inr, arith}
+use Rattle.std.proofs.lemmas.Bool.{cases_Bool}
 use Rattle.std.proofs.lemmas.Bool.Decides.{nat_tests}
-use Rattle.forms.specs.Bytes.{space, digit, letter, wordy, Every, Stops, Word, Decimal}
+use Rattle.forms.specs.Bytes.{space, digit, letter, wordy, Every, Stops}
 use Rattle.forms.specs.Pieces.{Piece, word, number, mark, head_of, Stands, Next}
-use Rattle.forms.proofs.Laws.{apart, nil_cons, head_eq, tail_eq, run_unique}
+use Rattle.forms.proofs.Laws.{apart, head_eq, tail_eq, run_unique}
 
 pub letter_space : (b : ℕ) → letter b ≡ true → space b ≡ false
 letter_space b h = grind (arith, nat_tests)

@@ -1,8 +1,8 @@
 -- Grammars: which piece may stand at each position of a text, which faults it has there, and which position comes after it.
-use Rattle.std.specs.Prelude.{◌≡◌, ℕ, ◌+◌, Bool, true, false, List, [], ◌∷◌, ◌++◌, length, Some, None, Option}
+use Rattle.std.specs.Prelude.{◌≡◌, ℕ, ◌+◌, Bool, true, false, List, ◌++◌, length, Some, None, Option}
 use Rattle.forms.specs.Bytes.{space, digit, wordy, Every, Stops, Word, Decimal}
 use Rattle.forms.specs.Forms.{Form}
-use Rattle.forms.specs.Pieces.{Piece, word, number, mark, head_of, Next}
+use Rattle.forms.specs.Pieces.{Piece, word, number, head_of, Next}
 
 pub record Grammar (P V : Type 0) : Type 1 where
   -- At these positions no spaces are free, and the next byte is the piece.

@@ -1,5 +1,5 @@
 -- Every table that a history meets is lawful.
-use Rattle.std.proofs.Common.{◌≡◌, ℕ, List, [], ◌∷◌, vec_items, sym, ap, subst}
+use Rattle.std.proofs.Common.{ℕ, List, [], ◌∷◌, vec_items, sym, subst}
 use Rattle.topl.specs.Lists.{Class}
 use Rattle.topl.specs.Table.{Table, Lawful}
 use Rattle.topl.specs.Ledger as L
@@ -9,7 +9,7 @@ use Rattle.engine.proofs.Properties.{lawful}
 use Rattle.history.specs.declared.call.Call.{Call}
 use Rattle.history.specs.declared.call.Call.TheVariants.{Begin, Feed, Draw, Close, Verdict, Path}
 use Rattle.history.specs.declared.call.Answer.{Answer}
-use Rattle.history.specs.Calls.{call, answer, log}
+use Rattle.history.specs.Calls.{call, log}
 use Rattle.history.specs.Whole.{LawfulThroughout}
 
 -- the table that a call hands over is lawful

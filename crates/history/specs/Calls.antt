@@ -1,5 +1,5 @@
 -- What the code's calls and answers are to the ledger.
-use Rattle.std.specs.Prelude.{ℕ, List, [], ◌∷◌, map, vec_items}
+use Rattle.std.specs.Prelude.{List, [], ◌∷◌, map, vec_items}
 use Rattle.kinds.specs.declared.refusal.Ending.{Ending}
 use Rattle.topl.specs.Lists.{Class}
 use Rattle.topl.specs.Theorems.{seen}

@@ -1,13 +1,13 @@
 -- The steps of a number's reading, and how large what it reads can be. Assumes nothing.
-use Rattle.std.specs.Prelude.{◌≡◌, ℕ, zero, suc, ◌+◌, ◌-◌, ◌*◌, ◌/◌, ◌%◌, ◌^◌, ◌<◌, ◌≤◌, Bool, true, false, cond, ◌⊎◌, List, [], ◌∷◌, ◌++◌, length, take, drop, Ok, Err, Result, ◌==◌, ◌≢◌, nat_lt, slice_index, refl}
-use Rattle.std.proofs.Common.{sym, ap, subst, ◌∙◌, inl, inr, ⊎_elim, pow-suc, add-one, arith, length-append, rules}
+use Rattle.std.specs.Prelude.{◌≡◌, ℕ, zero, suc, ◌+◌, ◌-◌, ◌*◌, ◌/◌, ◌%◌, ◌^◌, ◌<◌, ◌≤◌, ◌⊎◌, List, [], ◌∷◌, ◌++◌, length, take, drop, Ok, Err, Result, ◌==◌, ◌≢◌, nat_lt, slice_index, refl}
+use Rattle.std.proofs.Common.{sym, ap, subst, ◌∙◌, inl, inr, ⊎_elim, pow-suc, add-one, arith, length-append}
 use Rattle.std.proofs.Math.Nat.{pow-le-pow_right}
 use Rattle.std.proofs.lemmas.Slice.{first_rest}
-use Rattle.std.proofs.lemmas.Bool.{cases_lt, cond_both, eq-eqb, ne_eqb, cases_Bool, lt-ltb, le-ltb, ltb-true, ltb-false, eqb-true, eqb-false}
+use Rattle.std.proofs.lemmas.Bool.{cases_lt, cond_both, ne_eqb, lt-ltb, le-ltb, ltb-true, ltb-false, eqb-false}
 use Rattle.kinds.specs.declared.refusal.Fault.{Fault}
 use Rattle.kinds.specs.Refusals.{number_of, number_cut, number_overlong}
-use Rattle.kinds.specs.Readings.{Reading, Misread}
-use Rattle.kinds.specs.Numbers.{groups_read, number_read, lifted, form, encode, Whole, Inside, Numbered}
+use Rattle.kinds.specs.Readings.{Reading}
+use Rattle.kinds.specs.Numbers.{groups_read, number_read, number_given, lifted, form, encode, Whole, Inside, Numbered}
 
 -- What follows the first byte, as a slice pattern names it.
 abbrev pub after : List ℕ → List ℕ
@@ -261,3 +261,7 @@ unfolding groups_read
 single [] = tt
 single (b ∷ bs) =
     cond_both (nat_lt b 128) (Ok (b, 1)) (lifted b (groups_read 7 bs)) (Single (b ∷ bs)) (λ _ _. (refl, refl)) (λ _. lift_single b bs (groups_read 7 bs))
+
+pub within_given : (bs : List ℕ) (r : Result (ℕ × ℕ) Fault) → Reading 9 bs r → Reading 9 bs (number_given r)
+within_given bs (Ok p) t = t
+within_given bs (Err f) t = t

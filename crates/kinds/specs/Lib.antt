@@ -8,4 +8,3 @@ pub mod Trims
 pub mod Meaning
 pub mod Groups
 pub mod Texts
-pub mod NumbersKindLemmas

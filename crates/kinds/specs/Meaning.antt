@@ -1,16 +1,14 @@
 -- What a label's reading means, and the laws of the kind of labels. Assumes nothing.
-use Rattle.std.specs.Prelude.{◌≡◌, ℕ, zero, suc, ◌+◌, ◌-◌, ◌*◌, ◌<◌, ◌≤◌, Bool, true, false, cond, ◌&&◌, ◌||◌, ◌⊎◌, List, [], ◌∷◌, ◌++◌, map, length, take, drop, Ok, Err, Result, ◌==◌, ◌≢◌, nat_lt, slice_index, refl}
+use Rattle.std.specs.Prelude.{◌≡◌, ℕ, suc, ◌+◌, ◌<◌, ◌≤◌, true, false, cond, ◌||◌, List, [], ◌∷◌, ◌++◌, length, take, drop, Ok, Err, Result, ◌==◌, ◌≢◌, nat_lt, slice_index, refl}
 use Rattle.std.proofs.Common.{sym, ap, ap₂, subst, ◌∙◌, inl, inr, ⊎_elim, arith, length-take, length-append, take-append-drop}
 use Rattle.std.proofs.Math.Seq.{take-append_seam}
 use Rattle.std.proofs.lemmas.Bool.{or_cases, or_parts, cond_both, eqb-true, eqb-false, ltb-true, ltb-false, and_parts, both_ways}
-use Rattle.std.proofs.lemmas.Bool.Decides.{nat_tests}
-use Rattle.std.specs.Char.{to_ascii_lowercase, is_ascii_alphanumeric}
 use Rattle.kinds.specs.declared.refusal.Fault.{Fault}
 use Rattle.kinds.specs.declared.label.Label.{Label}
 use Rattle.kinds.specs.Refusals.{value_cut, value_bad}
-use Rattle.kinds.specs.Readings.{Reading, Misread}
-use Rattle.kinds.specs.Numbers.{groups_read, number_read, Numbered}
-use Rattle.kinds.specs.Labels.{label_byte, all_label, label_of, no_label, padded, label_read, sized_read, text_read, Fitting, Spelt, Unfitting, Short, Misspelt, Labelled}
+use Rattle.kinds.specs.Readings.{Reading}
+use Rattle.kinds.specs.Numbers.{number_read, Numbered}
+use Rattle.kinds.specs.Labels.{label_byte, all_label, label_of, no_label, padded, label_read, sized_read, text_read, Fitting, Spelt, Short, Labelled}
 use Rattle.kinds.specs.Groups.{Bytes, numbered, only, read_last, Single, single, whole_read, within}
 use Rattle.kinds.specs.Texts.{read_bad, read_cut, read_fault, read_long, read_whole}
 

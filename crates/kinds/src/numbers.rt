@@ -1,8 +1,7 @@
 // Kind 1, numbers: 0 to 2^63 - 1, and each is a class of its own.
 ghost use Rattle.std.specs.Prelude.{◌≡◌, None};
 ghost use Rattle.kinds.specs.Numbers.{number_class, number_value, groups_read};
-ghost use Rattle.kinds.specs.Groups.{within};
-ghost use Rattle.kinds.specs.NumbersKindLemmas.{within_given};
+ghost use Rattle.kinds.specs.Groups.{within, within_given};
 ghost use Rattle.std.proofs.Common.{rules};
 
 use crate::kind::Kind;

@@ -1,7 +1,7 @@
 -- Which methods are listed. Assumes nothing.
-use Rattle.std.proofs.Common.{◌≡◌, ℕ, ◌+◌, ◌-◌, ◌<◌, ◌≤◌, min, Bool, true, false, cond, ◌||◌, eqb, List, [], ◌∷◌, ◌++◌, length, get_or, take, drop, sym, refl, ap, ◌∙◌, subst, inl, inr, arith, eq-eqb, ne_eqb}
+use Rattle.std.proofs.Common.{◌≡◌, ℕ, ◌+◌, ◌-◌, ◌<◌, ◌≤◌, min, Bool, true, false, ◌||◌, eqb, List, ◌++◌, length, get_or, take, drop, sym, ap, ◌∙◌, inl, inr, arith, eq-eqb, ne_eqb}
 use Rattle.std.proofs.lemmas.Bool.{cases_lt}
-use Rattle.std.proofs.lemmas.List.{at_drop_more, at_drop_all, length-take, take_at, take_all, take-take}
+use Rattle.std.proofs.lemmas.List.{at_drop_more, at_drop_all, length-take, take_at, take_all}
 use Rattle.narrow.specs.Narrowing.{among}
 
 module _ (xs : List ℕ) (i m x : ℕ) (b : Bool) (within : i < length xs) (here : x ≡ get_or xs i 0) (left : among m (drop i xs) ≡ b) where

@@ -1,5 +1,5 @@
 -- The reads of a register in a statement that no earlier event of the statement writes, and the least of them.
-use Rattle.std.specs.Prelude.{◌≡◌, ℕ, ◌<◌, ◌≤◌, Bool, true, false, cond, ◌⊎◌, List, [], ◌∷◌, ◌++◌, length, get_or, Some, None, Option, ◌==◌, nat_le, slice_index_or}
+use Rattle.std.specs.Prelude.{◌≡◌, ℕ, ◌<◌, ◌≤◌, Bool, false, cond, ◌⊎◌, List, [], ◌∷◌, ◌++◌, length, get_or, Some, None, Option, ◌==◌, nat_le, slice_index_or}
 use Rattle.paths.specs.Paths.{slots_of, events_of, event_writes, state, Unwritten}
 use Rattle.property.specs.declared.table.Event.{Event}
 use Rattle.property.specs.declared.table.Pattern.{Pattern}

@@ -1,14 +1,14 @@
 -- The grammar of property texts is lawful.
-use Rattle.std.proofs.Common.{◌≡◌, ℕ, zero, suc, ◌+◌, ◌<◌, ◌≤◌, Bool, true, false, cond, ◌&&◌, ◌||◌, eqb, List, [], ◌∷◌, ◌++◌, Some, None, codes, Option, sym, refl, ap, ◌∙◌, subst, arith, eqb-true}
+use Rattle.std.proofs.Common.{◌≡◌, ℕ, Bool, true, false, cond, ◌||◌, eqb, List, [], ◌∷◌, Some, None, codes, refl, subst, arith, eqb-true}
 use Rattle.std.proofs.lemmas.Bool.Decides.{nat_tests}
-use Rattle.forms.specs.Bytes.{capital, letter, digit, wordy, Every, Word, Decimal}
+use Rattle.forms.specs.Bytes.{capital, digit, wordy, Every, Word, Decimal}
 use Rattle.forms.specs.Grammars.{Lawful}
 use Rattle.forms.specs.Pieces.{word, number}
 use Rattle.forms.proofs.Laws.{apart}
 use Rattle.forms.proofs.Lexing.{letter_wordy, digit_wordy}
-use Rattle.property.specs.Cursors.{to, counted, filled, labelled, naming, finished, returning, taking, one_more, met, opened, placed, writing}
+use Rattle.property.specs.Cursors.{to, counted, filled, labelled, finished, returning, taking, one_more, opened, placed, writing}
 use Rattle.property.specs.Grammar.{text, opens, opens_at, tight_at, ends_at}
-use Rattle.property.specs.States.{State, Property, at, turned, moved_at, moved, begins, whole_begins, callee_at, method_of, variable, variable_key, register_of, patterned, declares, leaving, ends_statement}
+use Rattle.property.specs.States.{State, at, turned, moved_at, moved, begins, whole_begins, callee_at, variable, variable_key, register_of, patterned, declares, leaving, ends_statement}
 use Rattle.property.specs.Words.{same, first_byte}
 use Rattle.property.specs.declared.cursor.Cursor.{Cursor}
 use Rattle.property.specs.declared.spot.Head.TheVariants as heads
@@ -22,7 +22,7 @@ use Rattle.property.specs.declared.spot.Spot.{Spot}
 use Rattle.property.specs.declared.spot.Spot.TheVariants as spots
 use Rattle.property.specs.declared.table.Pattern.TheVariants as patterns
 use Rattle.property.specs.declared.table.Slot.{Slot}
-use Rattle.property.proofs.Living.{lives_at, pattern_loose}
+use Rattle.property.proofs.Living.{lives_at}
 
 -- In a tight place no text ends.
 whole_at : {A : Type 0} (s : Spot) (l : List ℕ) (v : A) → tight_at s ≡ true → cond (ends_at s l) (Some v) None ≡ None

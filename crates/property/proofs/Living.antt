@@ -1,20 +1,19 @@
 -- From every position of a property text some text goes on.
-use Rattle.std.proofs.Common.{◌≡◌, ℕ, zero, suc, ◌+◌, ◌<◌, ◌≤◌, Bool, true, false, cond, ◌&&◌, ◌||◌, eqb, ltb, ◌⊎◌, List, [], ◌∷◌, ◌++◌, length, get_or, Some, None, codes, Option, sym, refl, ap, ◌∙◌, subst, inl, inr, arith, eq-eqb}
+use Rattle.std.proofs.Common.{◌≡◌, ℕ, zero, suc, ◌+◌, ◌≤◌, Bool, true, false, cond, eqb, ltb, List, [], ◌∷◌, ◌++◌, get_or, Some, None, codes, sym, refl, ap, ◌∙◌, subst, inl, inr, arith, eq-eqb}
 use Rattle.std.proofs.lemmas.Bool.{cases_Bool}
 use Rattle.std.proofs.lemmas.Bool.Decides.{nat_tests}
-use Rattle.forms.specs.Bytes.{space, wordy, digit, Every, Stops}
+use Rattle.forms.specs.Bytes.{space, wordy}
 use Rattle.forms.specs.Grammars.{Takes, stop, go, Lives}
 use Rattle.forms.specs.Pieces.{word, number, mark, Next}
 use Rattle.forms.proofs.Lexing.{digit_stops}
 use Rattle.property.specs.Cursors.{to, counted, filled, labelled, naming, finished, returning, taking, one_more}
-use Rattle.property.specs.Grammar.{text, opens, tight_at, ends_at}
-use Rattle.property.specs.States.{State, Property, at, turned, moved, closing, leaving, reaching, calling, ends_statement, callee_at, method_of, patterned, variable_key, constant_key, register_of}
+use Rattle.property.specs.Grammar.{text, opens, tight_at}
+use Rattle.property.specs.States.{State, Property, at, turned, moved, leaving, reaching, ends_statement, callee_at, method_of, variable_key, register_of}
 use Rattle.property.specs.declared.cursor.Cursor.{Cursor}
 use Rattle.property.specs.declared.spot.Head.TheVariants as heads
 use Rattle.property.specs.declared.spot.Inner.TheVariants as inners
 use Rattle.property.specs.declared.spot.Kind.{Kind}
 use Rattle.property.specs.declared.spot.Kind.TheVariants as kinds
-use Rattle.property.specs.declared.spot.Label.{Label}
 use Rattle.property.specs.declared.spot.Label.TheVariants as labels
 use Rattle.property.specs.declared.spot.Line.TheVariants as lines
 use Rattle.property.specs.declared.spot.Route.TheVariants as routes

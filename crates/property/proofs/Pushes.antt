@@ -1,10 +1,9 @@
 -- A property with one thing more.
-use Rattle.std.proofs.Common.{◌≡◌, ℕ, Bool, true, false, cond, List, [], ◌∷◌, ◌++◌, map, sym, refl, ap, ◌∙◌, subst}
+use Rattle.std.proofs.Common.{◌≡◌, ℕ, Bool, true, false, cond, List, [], ◌∷◌, ◌++◌, map, sym, ap, ◌∙◌}
 use Rattle.std.proofs.lemmas.List.{map-append}
-use Rattle.property.specs.Cursors.{to}
 use Rattle.property.specs.Moves.{hold, declare}
 use Rattle.property.specs.Moves.{visited}
-use Rattle.property.specs.States.{State, Property, Declared, Key, fresh_other, new_key, with_state, with_register, key, ends_statement}
+use Rattle.property.specs.States.{State, Declared, Key, fresh_other, new_key, with_state, with_register}
 use Rattle.property.specs.Views.{spelled, declared, key_of}
 use Rattle.property.specs.declared.cursor.Cursor.{Cursor}
 use Rattle.property.specs.declared.table.Method.{Method}

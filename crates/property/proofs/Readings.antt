@@ -1,17 +1,15 @@
 -- What a reader finds, by place: the spaces before a piece, the piece, and every way to stop there.
-use Rattle.std.proofs.Common.{◌≡◌, ℕ, zero, suc, ◌+◌, ◌-◌, ◌<◌, ◌≤◌, Bool, true, false, cond, ◌&&◌, eqb, ltb, ◌⊎◌, List, [], ◌∷◌, ◌++◌, length, get_or, take, drop, sym, refl, ap, ◌∙◌, subst, inl, inr, append-nil, arith}
-use Rattle.std.proofs.lemmas.List.{drop_more, drop_all, length-drop}
-use Rattle.std.proofs.lemmas.Bool.{cases_lt, cases_Bool}
+use Rattle.std.proofs.Common.{◌≡◌, ℕ, ◌+◌, ◌-◌, ◌<◌, ◌≤◌, Bool, true, false, ◌&&◌, eqb, ltb, List, [], ◌∷◌, length, get_or, take, drop, sym, refl, ap, ◌∙◌, subst, inl, inr, arith}
+use Rattle.std.proofs.lemmas.Bool.{cases_lt}
 use Rattle.std.proofs.lemmas.Bool.Decides.{nat_tests}
-use Rattle.forms.specs.Bytes.{space, digit, letter, wordy, Every, Stops, Word, Decimal}
-use Rattle.forms.specs.Pieces.{Piece, word, number, mark, head_of, Next}
+use Rattle.forms.specs.Bytes.{space, digit, letter, wordy, Every, Word, Decimal}
+use Rattle.forms.specs.Pieces.{word, number, mark, head_of}
 use Rattle.forms.proofs.Laws.{apart}
 use Rattle.forms.proofs.Lexing.{letter_wordy}
-use Rattle.property.specs.Grammar.{bytes}
 use Rattle.property.specs.Reading.{Passed}
 use Rattle.property.specs.Reads.{Gapped, Lexed}
 use Rattle.property.specs.Views.{slice}
-use Rattle.property.proofs.Texts.{split, length_slice, every_slice, slice_cons, stops_drop}
+use Rattle.property.proofs.Texts.{split, every_slice, slice_cons, stops_drop}
 
 pub none_slice : (t : List ℕ) (a : ℕ) → slice t a a ≡ []
 none_slice t a = let z : a - a ≡ 0 = omega arith in ap (λ (n : ℕ). take n (drop a t)) z

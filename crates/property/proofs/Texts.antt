@@ -1,8 +1,8 @@
 -- Parts of a text, by place.
-use Rattle.std.proofs.Common.{◌≡◌, ℕ, zero, suc, ◌+◌, ◌-◌, ◌<◌, ◌≤◌, Bool, true, false, cond, ◌⊎◌, List, [], ◌∷◌, ◌++◌, length, get_or, take, drop, sym, refl, ap, ◌∙◌, subst, inl, inr, append_assoc, arith}
+use Rattle.std.proofs.Common.{◌≡◌, ℕ, zero, suc, ◌+◌, ◌-◌, ◌<◌, ◌≤◌, Bool, true, false, cond, List, [], ◌∷◌, ◌++◌, length, get_or, take, drop, sym, refl, ap, ◌∙◌, inl, inr, append_assoc, arith}
 use Rattle.std.proofs.lemmas.List.{append_cancel_right, take-append-drop, drop-drop, length-take-le, length-drop, get_or-drop, drop_more, drop_all, get_or_past}
 use Rattle.std.proofs.lemmas.Bool.{cases_lt}
-use Rattle.forms.specs.Bytes.{Every, Stops, Word, Decimal, digit}
+use Rattle.forms.specs.Bytes.{Every, Stops}
 use Rattle.property.specs.Reading.{Passed}
 use Rattle.property.specs.Views.{slice}
 use Rattle.property.specs.Words.{front, past, first_byte}

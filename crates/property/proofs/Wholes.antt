@@ -1,20 +1,20 @@
 -- Reading a text from its beginning to its end.
-use Rattle.std.proofs.Common.{◌≡◌, ℕ, ◌+◌, ◌-◌, ◌<◌, ◌≤◌, Bool, true, false, cond, List, [], ◌∷◌, ◌++◌, length, drop, IsErrAnd, Some, None, Ok, Err, Result, sym, refl, ap, ◌∙◌, subst, arith, length-drop, MatchResult}
-use Rattle.forms.specs.Forms.{Form, Refused, Accepted}
+use Rattle.std.proofs.Common.{◌≡◌, ℕ, ◌+◌, ◌-◌, ◌≤◌, Bool, true, false, cond, List, length, drop, IsErrAnd, Some, None, Ok, Err, Result, sym, refl, ap, subst, arith, length-drop, MatchResult}
+use Rattle.forms.specs.Forms.{Refused, Accepted}
 use Rattle.forms.specs.Grammars.{form}
 use Rattle.forms.specs.Steps.{Carries}
 use Rattle.forms.proofs.Driver.{end_accepted, end_refused}
 use Rattle.forms.proofs.Laws.{apart, carries_step}
 use Rattle.kinds.specs.Refusals.{text_number}
-use Rattle.property.specs.Grammar.{any_text, text, ends_at}
+use Rattle.property.specs.Grammar.{any_text, text}
 use Rattle.property.specs.Outcomes.{Explains}
 use Rattle.property.specs.Reads.{Read, Halts, Finished}
-use Rattle.property.specs.States.{State, Property, nothing_read, moved, closing, routed}
+use Rattle.property.specs.States.{State, nothing_read, moved, closing, routed}
 use Rattle.property.specs.Views.{slice, spelled}
 use Rattle.property.specs.declared.reader.Flaw.{Flaw}
 use Rattle.property.specs.declared.reader.Found.{Found}
 use Rattle.property.specs.declared.text.Failure.{Failure}
-use Rattle.property.specs.declared.text.Failure.TheVariants.{At, Memory}
+use Rattle.property.specs.declared.text.Failure.TheVariants.{At}
 use Rattle.property.proofs.Lawfulness.{lawful}
 use Rattle.property.proofs.Texts.{split, length_slice}
 

@@ -1,19 +1,15 @@
 -- What each piece of a line does to a cursor.
-use Rattle.std.specs.Prelude.{◌≡◌, ℕ, ◌+◌, ◌-◌, Bool, true, false, cond, ◌&&◌, List, [], ◌∷◌, replicate, ◌==◌, nat_le, nat_lt, slice_index_or, slice_set}
+use Rattle.std.specs.Prelude.{ℕ, ◌+◌, ◌-◌, Bool, true, false, cond, ◌&&◌, List, replicate, ◌==◌, nat_le, nat_lt, slice_index_or, slice_set}
 use Rattle.property.specs.declared.cursor.Cursor.{Cursor}
 use Rattle.property.specs.declared.cursor.Partial.{Partial}
 use Rattle.property.specs.declared.spot.Kind.{Kind}
 use Rattle.property.specs.declared.spot.Kind.TheVariants as kinds
 use Rattle.property.specs.declared.spot.Head.TheVariants as heads
 use Rattle.property.specs.declared.spot.Label.TheVariants as labels
-use Rattle.property.specs.declared.spot.Route.TheVariants as routes
 use Rattle.property.specs.declared.spot.Spot.{Spot}
 use Rattle.property.specs.declared.spot.Spot.TheVariants as spots
-use Rattle.property.specs.declared.table.Answer.{Answer}
-use Rattle.property.specs.declared.table.Call.{Call}
 use Rattle.property.specs.declared.table.Event.{Event}
 use Rattle.property.specs.declared.table.Event.TheVariants as events
-use Rattle.property.specs.declared.table.Pattern.{Pattern}
 use Rattle.property.specs.declared.table.Pattern.TheVariants as patterns
 use Rattle.property.specs.declared.table.Slot.{Slot}
 use Rattle.property.specs.declared.table.Statement.{Statement}

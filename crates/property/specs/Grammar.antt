@@ -1,12 +1,12 @@
 -- The grammar of a property text: what may come at each spot, and the faults of what stands there.
-use Rattle.std.specs.Prelude.{◌≡◌, ℕ, ◌+◌, Bool, true, false, cond, not, ◌&&◌, ◌||◌, ◌⊎◌, List, [], ◌∷◌, ◌++◌, length, Some, None, codes, Option, ◌==◌, nat_eq, nat_le, nat_lt, slice_index_or}
+use Rattle.std.specs.Prelude.{◌≡◌, ℕ, ◌+◌, Bool, true, false, cond, not, ◌&&◌, ◌||◌, ◌⊎◌, List, [], ◌∷◌, length, Some, None, codes, Option, ◌==◌, nat_eq, nat_le, nat_lt, slice_index_or}
 use Rattle.forms.specs.Bytes.{space, digit, capital, small, letter, wordy, value}
 use Rattle.forms.specs.Forms.{Form, bounded}
 use Rattle.forms.specs.Grammars.{Grammar, form}
 use Rattle.forms.specs.Pieces.{Piece, word, number, mark, head_of}
 use Rattle.property.specs.Cursors.{wrote}
 use Rattle.property.specs.States.{Property, State, nothing_read, moved, closing, routed, declares, crowded, ninth, key, variable_key, register_of, method_place}
-use Rattle.property.specs.Words.{same, find, some, front, past, reserved, long, first_byte}
+use Rattle.property.specs.Words.{same, some, front, past, reserved, long, first_byte}
 use Rattle.property.specs.declared.cursor.Cursor.{Cursor}
 use Rattle.property.specs.declared.spot.Head.{Head}
 use Rattle.property.specs.declared.spot.Head.TheVariants as heads

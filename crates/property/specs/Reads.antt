@@ -1,5 +1,5 @@
 -- What a reader of a property text finds at a place.
-use Rattle.std.specs.Prelude.{◌≡◌, ℕ, ◌-◌, ◌<◌, ◌≤◌, Bool, true, false, List, [], ◌∷◌, ◌++◌, length, drop, Some, None, Option, slice_index}
+use Rattle.std.specs.Prelude.{◌≡◌, ℕ, ◌-◌, ◌<◌, ◌≤◌, Bool, true, false, List, [], length, drop, Some, None, Option, slice_index}
 use Rattle.forms.specs.Bytes.{space, Every}
 use Rattle.forms.specs.Forms.{Refused}
 use Rattle.forms.specs.Grammars.{form}

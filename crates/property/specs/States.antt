@@ -1,7 +1,7 @@
 -- What a property text has written as far as it was read, and what each piece adds.
-use Rattle.std.specs.Prelude.{ℕ, suc, ◌+◌, Bool, true, false, cond, not, ◌&&◌, ◌||◌, List, [], ◌∷◌, ◌++◌, length, codes, ◌==◌, nat_eq, nat_le, nat_lt, slice_index_or}
+use Rattle.std.specs.Prelude.{ℕ, ◌+◌, Bool, true, false, cond, not, ◌&&◌, ◌||◌, List, [], ◌∷◌, ◌++◌, length, codes, ◌==◌, nat_eq, nat_le, nat_lt, slice_index_or}
 use Rattle.forms.specs.Bytes.{capital, value}
-use Rattle.property.specs.Cursors.{opened, sourced, targeted, one_if, origin, to, counted, numbered, labelled, stated, seen, placed, naming, writing, one_more, filled, met, finished}
+use Rattle.property.specs.Cursors.{opened, sourced, targeted, one_if, origin, to, counted, numbered, labelled, stated, seen, placed, naming, writing, filled, met, finished}
 use Rattle.property.specs.Words.{same, find, some, lowered, first_byte}
 use Rattle.property.specs.declared.cursor.Cursor.{Cursor}
 use Rattle.property.specs.declared.spot.Head.{Head}

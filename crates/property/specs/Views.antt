@@ -1,5 +1,5 @@
 -- What the parts of a draft stand for, as names in the text that it reads.
-use Rattle.std.specs.Prelude.{ℕ, ◌-◌, Bool, true, false, cond, ◌&&◌, List, [], ◌∷◌, map, length, take, drop, Some, None, vec_items, Option, nat_le}
+use Rattle.std.specs.Prelude.{ℕ, ◌-◌, cond, ◌&&◌, List, [], map, length, take, drop, Some, None, vec_items, Option, nat_le}
 use Rattle.kinds.specs.Refusals.{text_number}
 use Rattle.kinds.specs.declared.text_reason.TextReason.{TextReason}
 use Rattle.property.specs.States.{Declared, Key, key, Property, State}

@@ -1,5 +1,5 @@
 -- What was taken of a source, and what waits. Assumes nothing.
-use Rattle.std.proofs.Common.{◌≡◌, ℕ, suc, List, [], ◌∷◌, ◌++◌, map, length, drop, Some, Ok, Err, Option, Result, sym, ap, ◌∙◌, subst, arith, MatchResult}
+use Rattle.std.proofs.Common.{◌≡◌, suc, List, [], ◌∷◌, ◌++◌, map, length, drop, Some, Ok, Err, Option, Result, sym, ap, ◌∙◌, subst, arith, MatchResult}
 use Rattle.std.proofs.lemmas.List.{append_assoc, drop_at, length-append, length-map, map-append}
 use Rattle.kinds.specs.declared.refusal.Ending.{Ending}
 use Rattle.sources.specs.Events.{Happening}

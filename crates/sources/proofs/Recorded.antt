@@ -1,9 +1,9 @@
 -- What the bytes of a journal record is what is read of them, and nothing else. Assumes nothing.
-use Rattle.std.proofs.Common.{◌≡◌, ℕ, zero, suc, ◌+◌, ◌-◌, ◌*◌, ◌^◌, ◌<◌, ◌≤◌, Bool, true, false, cond, ltb, ◌⊎◌, List, [], ◌∷◌, length, drop, Ok, Err, Result, sym, refl, ap, ◌∙◌, subst, ap₂, inl, inr, ⊎_elim, le_trans, mul-le-mul_right, suc-mul, arith, lit≤}
-use Rattle.std.proofs.lemmas.Bool.{cases_Bool, cases_lt, le-ltb, lt-ltb, ltb-true, ltb-false}
+use Rattle.std.proofs.Common.{◌≡◌, ℕ, zero, suc, ◌+◌, ◌*◌, ◌^◌, ◌<◌, ◌≤◌, Bool, true, false, cond, ltb, ◌⊎◌, List, [], ◌∷◌, length, drop, Ok, Err, Result, sym, refl, ap, ◌∙◌, subst, ap₂, inl, inr, le_trans, mul-le-mul_right, suc-mul, arith, lit≤}
+use Rattle.std.proofs.lemmas.Bool.{le-ltb, lt-ltb, ltb-true, ltb-false}
 use Rattle.kinds.specs.Groups.{short_number, within}
 use Rattle.kinds.specs.declared.refusal.Ending.{Ending}
-use Rattle.kinds.specs.declared.refusal.Ending.TheVariants.{End, Refused}
+use Rattle.kinds.specs.declared.refusal.Ending.TheVariants.{Refused}
 use Rattle.kinds.specs.declared.refusal.Fault.{Fault}
 use Rattle.kinds.specs.declared.refusal.Reason.TheVariants.{WildId, TooManyValues}
 use Rattle.kinds.specs.declared.refusal.Refusal.{Refusal}
@@ -11,7 +11,7 @@ use Rattle.kinds.specs.Numbers.{number_read}
 use Rattle.kinds.specs.Readings.{Reading}
 use Rattle.sources.specs.Events.{Happening, is_return, most}
 use Rattle.sources.specs.Format.{at, and_then, event_at, moved, record_at, refuses, values_at}
-use Rattle.sources.specs.Lawfulness.{by_result, ok_same, stands, then_ok}
+use Rattle.sources.specs.Lawfulness.{ok_same}
 use Rattle.sources.specs.Records.{Fails, Records, ShortRecords, Stands, Values, at_end, count_unread, count_wild, id_unread, id_wild, none, one_more, onto, stopped, value_unread}
 
 -- A refusal that came through two steps came from one of them.

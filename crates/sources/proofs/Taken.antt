@@ -1,5 +1,5 @@
 -- One reading at a place. Assumes nothing.
-use Rattle.std.proofs.Common.{◌≡◌, ℕ, ◌+◌, ◌-◌, ◌≤◌, List, length, take, drop, IfOk, Ok, Err, Result, sym, ap, ◌∙◌, subst, arith, MatchResult}
+use Rattle.std.proofs.Common.{◌≡◌, ℕ, ◌+◌, ◌-◌, ◌≤◌, List, length, take, drop, IfOk, Ok, Err, Result, ap, ◌∙◌, arith, MatchResult}
 use Rattle.std.proofs.lemmas.List.{take_rest, length-drop}
 use Rattle.kinds.specs.Readings.{Reading}
 use Rattle.kinds.specs.declared.refusal.Fault.{Fault}

@@ -4,7 +4,7 @@ use mathlib.Core.Bool.{false≢true}
 use mathlib.Core.List.Memᴰ
 use Rattle.std.proofs.lemmas.Bool.{and_parts, and_from, cases_lt}
 use Rattle.topl.specs.Lists.{Distinct, ◌∈◌, each, once}
-use Rattle.topl.specs.Table.{Event, Statement, Table, at, numbered, span}
+use Rattle.topl.specs.Table.{Event, Statement, Table, numbered, span}
 use Rattle.topl.specs.Runs.{Configuration, Landing, LetsSkip, Mode, Move, Outcome, Reach, Reaches, Registers, Run, World, alikeᶜ, arrivals, at_start, calm, closed, fails, hangs, has_come, landing_of, layers, moves, onto, onward, outcome_of, pass, passes, passing, quiet, reached, runs, settled, skip}
 use Rattle.topl.specs.Theorems.{Enumerates}
 use Rattle.topl.proofs.Basics.{∈-each, each-∈, alikeᶜ_tests, once-∈, ∈-once, once_distinct}

@@ -28,9 +28,9 @@ set_map f [] n v = refl
 set_map f (x ∷ xs) zero v = refl
 set_map f (x ∷ xs) (suc n) v = ap (λ r. f x ∷ r) (set_map f xs n v)
 
-getD_index : {i : ℕ} (d : Value) (is : List ℕ) → i ∈ is → (ys : Tuple) → get_or (map ident is ++ ys) (index i is) d ≡ ident i
-getD_index d [] m ys = absurd (Memᴰ.not-nil m)
-getD_index {i} d (j ∷ is) m ys = go (getD_index d is) (eqb i j) refl (Memᴰ.cases_cons m)
+get_or_index : {i : ℕ} (d : Value) (is : List ℕ) → i ∈ is → (ys : Tuple) → get_or (map ident is ++ ys) (index i is) d ≡ ident i
+get_or_index d [] m ys = absurd (Memᴰ.not-nil m)
+get_or_index {i} d (j ∷ is) m ys = go (get_or_index d is) (eqb i j) refl (Memᴰ.cases_cons m)
   where
     go : (i ∈ is → (ys : Tuple) → get_or (map ident is ++ ys) (index i is) d ≡ ident i) → (b : Bool) → eqb i j ≡ b → (i ≡ j) ⊎ (i ∈ is) → get_or (ident j ∷ (map ident is ++ ys)) (cond b 0 (suc (index i is))) d ≡ ident i
     go below true e h = ap ident (sym (eqb-true i j e))
@@ -134,13 +134,13 @@ module _ (is : List ℕ) where
   label_sound s e any_event K h = tt
   label_sound s e (event_of i ps) K h =
       let k = and_parts (eqb i e.id) (fits_all s (places e) 0 ps) h in
-      (getD_index (given nothing) is (K i (Memᴰ.head refl)) (map given s) ∙ ap ident (eqb-true i e.id k.0), grds_sound s e 0 ps k.1)
+      (get_or_index (given nothing) is (K i (Memᴰ.head refl)) (map given s) ∙ ap ident (eqb-true i e.id k.0), grds_sound s e 0 ps k.1)
 
   label_complete : (s : Registers) (e : Event) (m : Matcher) → Known m → Sat (loaded is s) (letter e) (translated is m).0 → meets s e m ≡ true
   label_complete s e any_event K h = refl
   label_complete s e (event_of i ps) K h =
       and_from (eqb i e.id) (fits_all s (places e) 0 ps)
-      (eq-eqb i e.id (ident_same (getD_index (given nothing) is (K i (Memᴰ.head refl)) (map given s)) h.0)) (grds_complete s e 0 ps h.1)
+      (eq-eqb i e.id (ident_same (get_or_index (given nothing) is (K i (Memᴰ.head refl)) (map given s)) h.0)) (grds_complete s e 0 ps h.1)
 
   label_does : (s : Registers) (e : Event) (m : Matcher) → Distinct (each overwrites (patterns m)) → act (translated is m).1 (letter e) (loaded is s) ≡ loaded is (writes s e m)
   label_does s e any_event d = refl

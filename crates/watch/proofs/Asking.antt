@@ -1,5 +1,5 @@
 -- What a watch that shows a ledger refuses, and what a path writes.
-use Rattle.std.proofs.Common.{◌≡◌, ℕ, ◌+◌, ◌-◌, ◌<◌, ◌≤◌, true, false, cond, ltb, List, ◌++◌, length, drop, Some, None, vec_items, Option, sym, refl, ap, ◌∙◌, subst, arith, length-append, length-drop, Bor, le-ltb, lt-ltb}
+use Rattle.std.proofs.Common.{◌≡◌, ℕ, ◌<◌, true, false, ltb, List, ◌++◌, length, drop, Some, None, vec_items, Option, sym, refl, ap, ◌∙◌, arith, length-append, length-drop, Bor, le-ltb, lt-ltb}
 use Rattle.kinds.specs.declared.phase.Phase.{Phase}
 use Rattle.kinds.specs.declared.phase.Phase.TheVariants.{Blank, Running, Broken, Spilled, Full, Kept}
 use Rattle.kinds.specs.declared.refusal.Layer.TheVariants.{Watch}

@@ -1,15 +1,14 @@
 -- What making a watch and a begin do to the ledger that it shows.
-use Rattle.std.proofs.Common.{◌≡◌, ℕ, ◌+◌, ◌*◌, ◌<◌, ◌≤◌, min, true, false, List, [], ◌∷◌, map, length, Some, None, vec_items, vec_len, Option, sym, refl, ap, ◌∙◌, subst, arith, Bor}
+use Rattle.std.proofs.Common.{◌≡◌, ℕ, ◌+◌, ◌*◌, ◌<◌, ◌≤◌, true, false, List, map, length, Some, None, vec_items, vec_len, Option, sym, refl, ap, ◌∙◌, subst, arith, Bor}
 use Rattle.std.proofs.lemmas.List.{length-map}
-use Rattle.kinds.specs.declared.phase.Phase.{Phase}
 use Rattle.kinds.specs.declared.phase.Phase.TheVariants.{Blank, Running}
 use Rattle.kinds.specs.declared.refusal.Layer.TheVariants.{Watch}
 use Rattle.kinds.specs.declared.refusal.Reason.{Reason}
 use Rattle.kinds.specs.declared.refusal.Refusal.{Refusal}
 use Rattle.topl.specs.Lists.{Class}
 use Rattle.topl.specs.Table as T
-use Rattle.topl.specs.Ledger.{Ledger, fresh, begun, refused, refusal, opening_reason, begin_reason, began, Begins}
-use Rattle.topl.specs.History.{Sound, Means}
+use Rattle.topl.specs.Ledger.{Ledger, fresh, begun, refused, opening_reason, begin_reason, began, Begins}
+use Rattle.topl.specs.History.{Means}
 use Rattle.topl.proofs.Calls.{begins_refused, begins_begun}
 use Rattle.topl.proofs.Lawful.{tested}
 use Rattle.topl.proofs.Lasting.{lasting}

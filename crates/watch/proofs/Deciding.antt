@@ -1,5 +1,5 @@
 -- What a feed and a close that the deciding rule settles do to the ledger that a watch shows.
-use Rattle.std.proofs.Common.{◌≡◌, ℕ, ◌+◌, ◌<◌, ◌≤◌, min, List, [], ◌∷◌, ◌++◌, length, Some, None, Ok, vec_items, vec_len, Option, Result, sym, refl, ap, ◌∙◌, subst, arith, length-append, Bor}
+use Rattle.std.proofs.Common.{◌≡◌, ℕ, ◌<◌, min, List, [], ◌∷◌, ◌++◌, length, Some, None, Ok, vec_items, Option, Result, sym, refl, ap, ◌∙◌, subst, arith, length-append, Bor}
 use Rattle.kinds.specs.declared.phase.Phase.{Phase}
 use Rattle.kinds.specs.declared.phase.Phase.TheVariants.{Running, Broken, Spilled, Full, Kept}
 use Rattle.kinds.specs.declared.refusal.Layer.TheVariants.{Watch}
@@ -16,11 +16,10 @@ use Rattle.topl.specs.Theorems.{Steady}
 use Rattle.topl.specs.Ledger.{Ledger, Answer, says, refuse, refused, registers_of, world_of, turned, broken_at, rule, phase_reason, event_reason, with_event, Settles, Feeds, Closes}
 use Rattle.topl.specs.History.{Sound, Means}
 use Rattle.topl.proofs.Bounded.{bounded}
-use Rattle.topl.proofs.Calls.{feeds_not, feeds_refused, feeds_ruled, closes_not, closes_ruled, phase_runs}
+use Rattle.topl.proofs.Calls.{feeds_refused, feeds_ruled, closes_ruled, phase_runs}
 use Rattle.topl.proofs.Lasting.{lasting}
 use Rattle.engine.specs.declared.property.Table.{Table}
 use Rattle.engine.specs.Meant.{meant}
-use Rattle.engine.specs.declared.entry.Entry.{Entry}
 use Rattle.engine.specs.declared.front.Ruling.{Ruling}
 use Rattle.engine.specs.declared.front.Ruling.TheVariants.{Breaks, Spills, Overfills, GoesOn}
 use Rattle.engine.specs.declared.state.State.{State}

@@ -1,5 +1,5 @@
 -- What a draw does to the ledger that a watch shows.
-use Rattle.std.proofs.Common.{◌≡◌, ℕ, List, [], ◌∷◌, map, Some, None, Option, sym, refl, ap, ◌∙◌, subst, Bor}
+use Rattle.std.proofs.Common.{◌≡◌, ℕ, List, [], ◌∷◌, map, None, Option, sym, ◌∙◌, subst, Bor}
 use Rattle.kinds.specs.declared.phase.Phase.TheVariants.{Running}
 use Rattle.kinds.specs.declared.refusal.Ending.{Ending}
 use Rattle.topl.specs.Lists.{Class}

@@ -1,6 +1,6 @@
 -- When a watch shows a ledger.
 use Rattle.std.specs.Prelude.{◌≡◌, ◌<◌, List, map, length, Some, None, vec_items, vec_len, Option}
-use Rattle.std.specs.Borrow.{Bor, Bor}
+use Rattle.std.specs.Borrow.{Bor}
 use Rattle.kinds.specs.declared.phase.Phase.TheVariants.{Running, Broken}
 use Rattle.kinds.specs.declared.refusal.Ending.{Ending}
 use Rattle.topl.specs.Lists.{Class}

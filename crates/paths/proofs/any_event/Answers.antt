@@ -1,4 +1,4 @@
-use Rattle.std.proofs.Common.{◌≡◌, sym, ap, ◌∙◌}
+use Rattle.std.proofs.Common.{sym, ap, ◌∙◌}
 use Rattle.paths.specs.Paths.{event_writes}
 use Rattle.property.specs.Words.{some}
 use Rattle.property.specs.declared.table.Event.{Event}

@@ -1,4 +1,4 @@
-use Rattle.std.proofs.Common.{◌≡◌, ℕ, ◌+◌, [], get_or, drop, sym, refl, ap, ◌∙◌, subst}
+use Rattle.std.proofs.Common.{◌+◌, [], get_or, drop, sym, refl, ap, ◌∙◌, subst}
 use Rattle.property.specs.declared.table.Statement.{Statement}
 use Rattle.paths.specs.Reads.{flagged, lesser}
 use Rattle.paths.proofs.Minima.{SoFar, least_more, least_all, statement_step}

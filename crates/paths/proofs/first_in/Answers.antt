@@ -1,4 +1,4 @@
-use Rattle.std.proofs.Common.{◌≡◌, ℕ, ◌+◌, cond, get_or, drop, Option, sym, refl, ap, ◌∙◌, subst}
+use Rattle.std.proofs.Common.{◌+◌, drop, sym, refl, ap, ◌∙◌, subst}
 use Rattle.paths.specs.Reads.{reads_in, lesser}
 use Rattle.paths.proofs.Minima.{SoFar, least_more, least_all, slot_step}
 use Rattle.paths.proofs.first_in.Goals as goal

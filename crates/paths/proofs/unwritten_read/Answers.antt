@@ -1,6 +1,6 @@
-use Rattle.std.proofs.Common.{◌≡◌, ℕ, ◌+◌, false, length, get_or, Option, sym, refl, ap, ◌∙◌, subst, arith}
+use Rattle.std.proofs.Common.{◌≡◌, ℕ, ◌+◌, false, length, sym, ◌∙◌, subst, arith}
 use Rattle.property.specs.declared.table.Register.{Register}
-use Rattle.paths.specs.Reads.{FirstOf, lesser}
+use Rattle.paths.specs.Reads.{FirstOf}
 use Rattle.paths.proofs.Registers.{constant_more, variable_more, held}
 use Rattle.paths.proofs.unwritten_read.Goals as goal
 use Rattle.paths.proofs.unwritten_read.Goals.{then-not-g, else-not-g}

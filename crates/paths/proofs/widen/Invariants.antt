@@ -1,4 +1,4 @@
-use Rattle.std.proofs.Common.{◌≡◌, ℕ, ◌<◌, true, false, length, get_or}
+use Rattle.std.proofs.Common.{◌≡◌, ℕ, ◌<◌, true, false, get_or}
 use Rattle.paths.specs.Paths.{statement_writes, state}
 use Rattle.property.specs.declared.table.Statement.{Statement}
 use Rattle.paths.proofs.widen.Given as goal

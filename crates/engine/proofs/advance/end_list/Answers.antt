@@ -1,6 +1,6 @@
-use Rattle.std.proofs.Common.{◌≡◌, ℕ, suc, ◌+◌, ◌-◌, ◌≤◌, length, drop, sym, refl, ap, ◌∙◌, subst, arith}
+use Rattle.std.proofs.Common.{◌≡◌, ℕ, ◌+◌, ◌-◌, length, drop, sym, refl, ap, ◌∙◌, subst, arith}
 use Rattle.topl.specs.Runs.{closing}
-use Rattle.engine.specs.Judging.{Start, Decided}
+use Rattle.engine.specs.Judging.{Start}
 use Rattle.engine.specs.Windows.{Remembers}
 use Rattle.engine.specs.States.{grid_of}
 use Rattle.engine.proofs.Starts.{start_close}

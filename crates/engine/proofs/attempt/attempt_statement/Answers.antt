@@ -1,4 +1,4 @@
-use Rattle.std.proofs.Common.{◌≡◌, ◌+◌, ◌*◌, ◌<◌, ◌≤◌, map, length, get_or, take, drop, sym, ap, ◌∙◌, subst, arith, rules}
+use Rattle.std.proofs.Common.{◌+◌, map, get_or, sym, ◌∙◌, subst, arith, rules}
 use Rattle.topl.specs.Table.{matchers}
 use Rattle.engine.specs.declared.table.Matcher.TheVariants.{Any}
 use Rattle.engine.specs.Views.{statement, matcher, Shown}

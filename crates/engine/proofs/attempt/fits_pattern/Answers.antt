@@ -1,4 +1,4 @@
-use Rattle.std.proofs.Common.{◌≡◌, ◌<◌, not, length, ap, ◌∙◌, rules}
+use Rattle.std.proofs.Common.{◌<◌, not, length, ap, ◌∙◌, rules}
 use Rattle.topl.specs.Lists.{same_class}
 use Rattle.engine.proofs.Fits.{class_read, same_is}
 use Rattle.engine.proofs.attempt.fits_pattern.Goals as goal

@@ -1,5 +1,5 @@
-use Rattle.std.proofs.Common.{◌≡◌, ◌+◌, ◌<◌, ◌≤◌, true, false, map, length, sym, ap, ◌∙◌, subst, arith, rules}
-use Rattle.topl.specs.Runs.{fits, written}
+use Rattle.std.proofs.Common.{◌<◌, ◌≤◌, map, length, sym, ap, ◌∙◌, subst, arith}
+use Rattle.topl.specs.Runs.{written}
 use Rattle.engine.specs.Views.{pattern, guards, Inside}
 use Rattle.engine.proofs.Sound.{length_guards, guard_at}
 use Rattle.engine.proofs.Fits.{write_step, write_done}

@@ -1,4 +1,4 @@
-use Rattle.std.proofs.Common.{◌≡◌, ℕ, ◌+◌, ◌-◌, ◌%◌, ◌<◌, ◌≤◌, true, false, ◌||◌, ◌++◌, vec_items, sym, ap, ◌∙◌, subst, arith}
+use Rattle.std.proofs.Common.{ℕ, ◌-◌, ◌%◌, ◌++◌, vec_items, ◌∙◌, subst, arith}
 use Rattle.std.proofs.lemmas.Bool.{or_right, or_from}
 use Rattle.topl.specs.Rows.{incoming, Filled}
 use Rattle.topl.specs.Deciding.{any_error}

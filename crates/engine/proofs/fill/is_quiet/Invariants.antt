@@ -1,4 +1,4 @@
-use Rattle.std.proofs.Common.{◌≡◌, ℕ, ◌+◌, true, length, take}
+use Rattle.std.proofs.Common.{◌≡◌, ℕ, ◌+◌, true, take}
 use Rattle.topl.specs.Table.{Table, numbered}
 use Rattle.topl.specs.Runs.{World, quiet}
 use Rattle.engine.specs.Fronts.{configuration}

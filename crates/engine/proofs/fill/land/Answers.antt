@@ -1,8 +1,6 @@
-use Rattle.std.proofs.Common.{◌≡◌, ℕ, true, false, ◌||◌, eqb, List, [], ◌∷◌, Some, None, vec_items, sym, refl, ap, ◌∙◌, subst}
+use Rattle.std.proofs.Common.{false, ◌||◌, [], ◌∷◌, None, vec_items, sym, ap, subst}
 use Rattle.std.proofs.lemmas.Bool.{ne_eqb, eq-eqb}
-use Rattle.topl.specs.Runs.{Configuration}
-use Rattle.engine.specs.Trails.{steps_by}
-use Rattle.engine.specs.Fronts.{configuration, grid, Grid}
+use Rattle.engine.specs.Fronts.{configuration, grid}
 use Rattle.engine.specs.Fills.{Safe, Brought}
 use Rattle.engine.proofs.Fills.{grows_added, grows_held, grows_spilled, safe_none, safe_spill, safe_comes, safe_told, spill}
 use Rattle.engine.proofs.fill.land.Goals as goal

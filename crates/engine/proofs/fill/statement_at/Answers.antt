@@ -1,5 +1,5 @@
-use Rattle.std.proofs.Common.{◌≡◌, sym, refl, ◌∙◌, arith}
-use Rattle.engine.specs.Views.{statement, sound}
+use Rattle.std.proofs.Common.{refl, arith}
+use Rattle.engine.specs.Views.{sound}
 use Rattle.engine.proofs.Sound.{every_in}
 use Rattle.engine.proofs.Tables.{numbered_at, numbered_end}
 use Rattle.engine.proofs.fill.statement_at.Goals as goal

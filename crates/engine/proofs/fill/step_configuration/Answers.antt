@@ -5,12 +5,11 @@ use Rattle.topl.specs.Table.{numbered, implied}
 use Rattle.topl.specs.Runs.{Reach, lands, skips, passing}
 use Rattle.topl.specs.Rows.{landed}
 use Rattle.topl.specs.Deciding.{any_error}
-use Rattle.topl.proofs.Loops.{error_early, error_late}
+use Rattle.topl.proofs.Loops.{error_late}
 use Rattle.topl.proofs.Moves.{landed_append, passing_more, passing_front}
-use Rattle.engine.specs.Views.{statement}
 use Rattle.engine.specs.Fronts.{configuration, grid}
 use Rattle.engine.specs.Fills.{Brought}
-use Rattle.engine.proofs.Tables.{length_numbered, getD-∈}
+use Rattle.engine.proofs.Tables.{length_numbered, get_or-∈}
 use Rattle.engine.proofs.Fills.{brought_on, safe_on}
 use Rattle.engine.proofs.fill.step_configuration.Goals as goal
 
@@ -40,7 +39,7 @@ returns-in-Some-step_statement g c =
           let r₁ = subst (Reach P k w q d) (sym (A.1.kept c.args.at.entry c.requires.6)) r in
           let B = c.loop-i.invariant.1 base P k w W r₁ in
           let r₂ = subst (Reach P k w q d) (sym (B.1.kept c.args.at.entry (omega (arith, c.requires.6)))) r₁ in
-          let h = c.in-Some-step_statement.ensures.brings base P k w W (subst (λ z. z ∈ numbered P) is (getD-∈ (numbered P) c.loop-i.i (65, implied) l)) r₂ in
+          let h = c.in-Some-step_statement.ensures.brings base P k w W (subst (λ z. z ∈ numbered P) is (get_or-∈ (numbered P) c.loop-i.i (65, implied) l)) r₂ in
           let h' : any_error (landed p (lands w q d t)) ≡ true = ap (λ z. any_error (landed p (lands w q d z))) is ∙ h.0 in
           let e : any_error (landed p (passing w q d (take (c.loop-i.i + 1) (numbered P)))) ≡ true =
           ap any_error (passing_more w q d p (numbered P) c.loop-i.i l) ∙ error_late (landed p (passing w q d (take c.loop-i.i (numbered P)))) (landed p (lands w q d t)) h' in (
@@ -73,7 +72,7 @@ loop-i-preserved g c =
           let m = c.in-None.ensures.safe.more in
           let B = c.loop-i.invariant.1 base P k w W r₁ in
           let r₂ = subst (Reach P k w q d) (sym (B.1.kept c.args.at.entry (omega (arith, c.requires.6)))) r₁ in
-          let h = c.in-None-step_statement.ensures.brings base P k w W (subst (λ z. z ∈ numbered P) is (getD-∈ (numbered P) c.loop-i.i (65, implied) l)) r₂ in
+          let h = c.in-None-step_statement.ensures.brings base P k w W (subst (λ z. z ∈ numbered P) is (get_or-∈ (numbered P) c.loop-i.i (65, implied) l)) r₂ in
           let h' = subst (λ z. Brought class cap slot P k w p G₂ G₃ (landed p (lands w q d z)) None) (sym is) h in
           subst (λ z. Brought class cap slot P k w p G₁ G₃ z None) (sym (passing_more w q d p (numbered P) c.loop-i.i l))
           (brought_on class cap P k w p slot G₁ G₂ G₃ (landed p (passing w q d (take c.loop-i.i (numbered P)))) (landed p (lands w q d t)) None B h'),

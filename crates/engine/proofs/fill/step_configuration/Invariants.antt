@@ -1,4 +1,4 @@
-use Rattle.std.proofs.Common.{◌≡◌, ℕ, ◌+◌, length, take, None, vec_items}
+use Rattle.std.proofs.Common.{ℕ, ◌+◌, take, None, vec_items}
 use Rattle.topl.specs.Table.{Table, numbered}
 use Rattle.topl.specs.Runs.{Registers, World, Reach, passing}
 use Rattle.topl.specs.Rows.{landed}

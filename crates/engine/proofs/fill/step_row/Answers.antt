@@ -1,4 +1,4 @@
-use Rattle.std.proofs.Common.{◌≡◌, ◌+◌, ◌*◌, ◌<◌, ◌≤◌, true, [], length, get_or, take, Some, None, vec_items, sym, ap, ◌∙◌, subst, arith, rules}
+use Rattle.std.proofs.Common.{◌+◌, ◌*◌, ◌<◌, ◌≤◌, [], length, get_or, take, Some, None, vec_items, sym, ap, ◌∙◌, subst, arith, rules}
 use Rattle.std.proofs.lemmas.List.{take_all}
 use Rattle.topl.specs.Lists.{each}
 use Rattle.topl.specs.Runs.{Reach, moves, first_configuration}
@@ -6,7 +6,7 @@ use Rattle.topl.specs.Rows.{landed}
 use Rattle.topl.specs.Deciding.{any_error}
 use Rattle.topl.proofs.Loops.{each_more, each_error}
 use Rattle.engine.specs.Trails.{steps_to}
-use Rattle.engine.specs.Fronts.{configuration, row_at, grid, count_at}
+use Rattle.engine.specs.Fronts.{row_at, grid, count_at}
 use Rattle.engine.specs.Fills.{Brought}
 use Rattle.engine.proofs.Fronts.{row_read, length_row_at, entry_known}
 use Rattle.engine.proofs.Fills.{brought_on, safe_on, entry_steps}

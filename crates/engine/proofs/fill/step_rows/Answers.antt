@@ -1,4 +1,4 @@
-use Rattle.std.proofs.Common.{◌≡◌, ℕ, ◌+◌, ◌-◌, ◌%◌, ◌<◌, ◌≤◌, true, Some, None, vec_items, sym, ap, ◌∙◌, subst, arith, rules}
+use Rattle.std.proofs.Common.{◌≡◌, ℕ, ◌+◌, ◌-◌, ◌%◌, ◌<◌, ◌≤◌, Some, None, vec_items, sym, ap, ◌∙◌, subst, arith, rules}
 use Rattle.topl.specs.Lists.{each}
 use Rattle.topl.specs.Runs.{moves}
 use Rattle.topl.specs.Rows.{landed, incoming}

@@ -1,4 +1,4 @@
-use Rattle.std.proofs.Common.{◌≡◌, ℕ, ◌+◌, ◌-◌, ◌%◌, ◌<◌, ◌≤◌, None, vec_items}
+use Rattle.std.proofs.Common.{ℕ, ◌-◌, ◌%◌, ◌<◌, ◌≤◌, None, vec_items}
 use Rattle.topl.specs.Table.{Table}
 use Rattle.topl.specs.Runs.{Registers, World}
 use Rattle.topl.specs.Rows.{incoming}

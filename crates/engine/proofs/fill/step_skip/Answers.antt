@@ -1,5 +1,4 @@
-use Rattle.std.proofs.Common.{◌≡◌, ℕ, suc, ◌+◌, ◌<◌, ◌≤◌, [], length, drop, vec_items, sym, ap, ◌∙◌, subst, arith, length-drop}
-use Rattle.topl.specs.Table.{numbered}
+use Rattle.std.proofs.Common.{◌≡◌, ℕ, suc, ◌+◌, ◌<◌, ◌≤◌, length, drop, vec_items, sym, ap, ◌∙◌, subst, arith, length-drop}
 use Rattle.topl.specs.Runs.{Reach, onward, skip}
 use Rattle.topl.specs.Rows.{landed}
 use Rattle.topl.proofs.Moves.{skips_late, skips_here}

@@ -1,6 +1,6 @@
 use Rattle.std.proofs.Common.{◌≡◌, ℕ, ◌+◌, map, drop, vec_items, sym, refl, ap, ◌∙◌, subst, arith}
 use Rattle.topl.specs.Table.{matchers, span}
-use Rattle.topl.specs.Runs.{Reach, onward, pass, fares, passes}
+use Rattle.topl.specs.Runs.{Reach, onward, pass, fares}
 use Rattle.topl.proofs.Moves.{fared, lands_away, lands_far, lands_passes, lands_fails, lands_hangs}
 use Rattle.engine.specs.Views.{statement}
 use Rattle.engine.specs.Trails.{steps_by}

@@ -1,4 +1,4 @@
-use Rattle.std.proofs.Common.{◌≡◌, ℕ, suc, ◌+◌, ◌%◌, ◌<◌, ◌≤◌, vec_items, refl, ap, ◌∙◌, arith}
+use Rattle.std.proofs.Common.{◌≡◌, ℕ, suc, ◌≤◌, vec_items, refl, ap, ◌∙◌, arith}
 use Rattle.engine.specs.Fronts.{grid}
 use Rattle.engine.specs.Judging.{shown_entry}
 use Rattle.engine.proofs.Judging.{along_start, along_ready, along_balance, along_decides, along_more, along_end}

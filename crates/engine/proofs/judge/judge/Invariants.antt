@@ -1,4 +1,4 @@
-use Rattle.std.proofs.Common.{◌≡◌, ℕ, ◌+◌, ◌≤◌, List, length, vec_items}
+use Rattle.std.proofs.Common.{◌≡◌, List, length, vec_items}
 use Rattle.topl.specs.Table.{Event, Table}
 use Rattle.topl.specs.Runs.{Registers, World}
 use Rattle.engine.specs.Trails.{room_of}

@@ -1,10 +1,9 @@
-use Rattle.std.proofs.Common.{◌≡◌, ℕ, ◌+◌, ◌-◌, ◌%◌, ◌<◌, ◌≤◌, length, vec_items, sym, ap, ◌∙◌, subst, ap₂, arith}
+use Rattle.std.proofs.Common.{◌%◌, ◌<◌, ◌≤◌, vec_items, sym, ◌∙◌, arith}
 use Rattle.std.proofs.lemmas.Bool.{ltb-true, ltb-false}
 use Rattle.topl.specs.Runs.{so_far}
-use Rattle.topl.specs.Deciding as D
 use Rattle.topl.proofs.Step.{stepping}
 use Rattle.engine.specs.Trails.{room_of}
-use Rattle.engine.specs.Fronts.{row_at, count_at, grid}
+use Rattle.engine.specs.Fronts.{row_at, grid}
 use Rattle.engine.specs.Fills.{Fits}
 use Rattle.engine.proofs.Fronts.{length_row_at}
 use Rattle.engine.proofs.Judging.{rules_broken, rules_spilled, rules_full, rules_goes, breaks_not, spills_not, overfills_not}

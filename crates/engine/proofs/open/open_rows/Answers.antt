@@ -1,8 +1,8 @@
-use Rattle.std.proofs.Common.{◌≡◌, ℕ, suc, ◌+◌, ◌-◌, ◌*◌, ◌%◌, ◌<◌, ◌≤◌, [], map, length, take, replicate, vec_items, vec_len, sym, refl, ap, ◌∙◌, subst, arith}
+use Rattle.std.proofs.Common.{◌≡◌, ◌-◌, ◌*◌, ◌≤◌, [], map, length, take, replicate, vec_items, sym, refl, ap, ◌∙◌, subst, arith}
 use Rattle.std.proofs.lemmas.List.{length-take-le}
 use Rattle.topl.specs.Runs.{so_far}
 use Rattle.topl.specs.Ledger.{sets, initial}
-use Rattle.engine.specs.Fronts.{grid, Room, stored}
+use Rattle.engine.specs.Fronts.{grid, Room}
 use Rattle.engine.specs.Fills.{Tracked}
 use Rattle.engine.specs.Judging.{Held}
 use Rattle.engine.proofs.Opens.{front_part, opened_room, opened_held, opened_tracked, opened_total, only_held, only_tracked}

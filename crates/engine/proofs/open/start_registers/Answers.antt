@@ -1,4 +1,4 @@
-use Rattle.std.proofs.Common.{◌≡◌, ◌+◌, ◌<◌, ltb, map, length, get_or, drop, set, sym, ap, ◌∙◌, arith, length-set}
+use Rattle.std.proofs.Common.{ltb, map, get_or, sym, ◌∙◌, arith, length-set}
 use Rattle.std.proofs.lemmas.Bool.{ltb-true}
 use Rattle.engine.proofs.Sound.{every_in}
 use Rattle.engine.proofs.Opens.{sets_more, sets_all}

@@ -1,4 +1,4 @@
-use Rattle.std.proofs.Common.{◌≡◌, ℕ, [], map, length, drop, replicate}
+use Rattle.std.proofs.Common.{◌≡◌, [], map, length, drop, replicate}
 use Rattle.topl.specs.Ledger.{sets}
 use Rattle.engine.proofs.open.start_registers.Given as goal
 

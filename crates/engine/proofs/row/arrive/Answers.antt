@@ -1,7 +1,7 @@
-use Rattle.std.proofs.Common.{◌≡◌, ◌+◌, ◌*◌, ◌<◌, ◌≤◌, Bool, length, take, drop, vec_items, sym, refl, ap, ◌∙◌, subst, ap₂, arith}
+use Rattle.std.proofs.Common.{◌<◌, vec_items, sym, refl, ap, ◌∙◌, subst, arith}
 use Rattle.topl.specs.Lists.{holds}
 use Rattle.topl.specs.Runs.{alikeᶜ}
-use Rattle.engine.specs.Fronts.{configuration, row, row_at, count_at, states_at, grid, Room, Comes}
+use Rattle.engine.specs.Fronts.{configuration, count_at, grid, Comes}
 use Rattle.engine.proofs.Fronts.{row_part, length_row_at, comes}
 use Rattle.engine.proofs.row.arrive.Goals as goal
 

@@ -1,4 +1,4 @@
-use Rattle.std.proofs.Common.{◌≡◌, ℕ, ◌+◌, ◌-◌, ◌*◌, ◌<◌, ◌≤◌, ◌++◌, length, get_or, take, drop, set, sym, refl, ap, ◌∙◌, subst, arith}
+use Rattle.std.proofs.Common.{◌≡◌, ℕ, ◌+◌, ◌-◌, ◌*◌, ◌<◌, ◌≤◌, ◌++◌, length, get_or, take, drop, set, refl, ap, ◌∙◌, subst, arith}
 use Rattle.engine.specs.Views.{Seen}
 use Rattle.engine.proofs.Windows.{forget_first, forget_none, take_few, shift_more, shift_done, shift_long}
 use Rattle.engine.proofs.window.forget.Goals as goal

@@ -1,4 +1,4 @@
-use Rattle.std.proofs.Common.{◌≡◌, ◌+◌, ◌++◌, length, take, drop}
+use Rattle.std.proofs.Common.{◌≡◌, ◌++◌, take, drop}
 use Rattle.engine.proofs.window.forget.Given as goal
 
 abbrev pub invariant-loop-i : goal.invariant-loop-i

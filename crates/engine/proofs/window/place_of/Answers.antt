@@ -1,7 +1,6 @@
-use Rattle.std.proofs.Common.{◌≡◌, ◌%◌, Bool, true, false, cond, ◌∷◌, get_or, sym, ap, ◌∙◌, arith}
+use Rattle.std.proofs.Common.{◌%◌, cond, ◌∷◌, get_or, sym, ap, ◌∙◌, arith}
 use Rattle.std.proofs.lemmas.Bool.{ne_eqb, eq-eqb}
-use Rattle.topl.specs.Table.{calls}
-use Rattle.engine.proofs.Windows.{getD_later}
+use Rattle.engine.proofs.Windows.{get_or_later}
 use Rattle.engine.proofs.window.place_of.Goals as goal
 
 pub returns-then-id-eq1 : goal.returns-then-id-eq1
@@ -23,4 +22,4 @@ returns-else-i-eq0 g c =
     let n = g.K.Kind.nothing in
     let vs = c.args.values.now in
     let e = c.if-id-eq1.false in
-    c.value_of-else-i-eq0.ensures ∙ (getD_later n vs c.args.i n c.if-i-eq0.false ∙ ap (λ b. get_or (cond b (n ∷ vs) vs) c.args.i n) (sym (eq-eqb (c.args.id % 2) 0 (omega arith))))
+    c.value_of-else-i-eq0.ensures ∙ (get_or_later n vs c.args.i n c.if-i-eq0.false ∙ ap (λ b. get_or (cond b (n ∷ vs) vs) c.args.i n) (sym (eq-eqb (c.args.id % 2) 0 (omega arith))))

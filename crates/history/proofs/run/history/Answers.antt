@@ -5,7 +5,6 @@ use Rattle.std.proofs.lemmas.List.{take_more, take_all, length_push}
 use Rattle.std.proofs.lemmas.Result.{MatchResult-from_err}
 use Rattle.topl.specs.History.{History, made}
 use Rattle.history.specs.Calls.{log, meant, moment}
-use Rattle.history.specs.Whole.{Told}
 use Rattle.watch.proofs.Sizes.{watch_fits}
 use Rattle.history.proofs.Steps.{history_step, finish}
 use Rattle.history.proofs.run.history.Goals as goal

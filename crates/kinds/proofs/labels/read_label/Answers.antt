@@ -1,4 +1,4 @@
-use Rattle.std.proofs.Common.{◌≡◌, sym, ◌∙◌, subst, arith}
+use Rattle.std.proofs.Common.{sym, ◌∙◌, subst, arith}
 use Rattle.kinds.specs.Labels.{Labelled}
 use Rattle.kinds.specs.Readings.{Reading}
 use Rattle.kinds.specs.Meaning.{label_keeps, label_only, labelled}

@@ -1,4 +1,4 @@
-use Rattle.std.proofs.Common.{◌≡◌, sym, ◌∙◌, subst, arith}
+use Rattle.std.proofs.Common.{sym, ◌∙◌, subst, arith}
 use Rattle.kinds.specs.Numbers.{Numbered}
 use Rattle.kinds.specs.Readings.{Reading}
 use Rattle.kinds.specs.Groups.{numbered, only, within}

@@ -1,4 +1,4 @@
-use Rattle.std.proofs.Common.{◌≡◌, ℕ, List, length, Some, None, Option, refl, subst, inl, inr}
+use Rattle.std.proofs.Common.{◌≡◌, ℕ, List, length, Some, None, Option, refl, subst, inr}
 use Rattle.paths.specs.Reads.{FirstOf}
 use Rattle.property.specs.declared.table.Register.{Register}
 use Rattle.property.specs.declared.table.Statement.{Statement}

@@ -1,4 +1,4 @@
-use Rattle.std.proofs.Common.{◌≡◌, eqb, List, ap, ◌∙◌, eq-eqb, ne_eqb}
+use Rattle.std.proofs.Common.{eqb, ap, ◌∙◌, eq-eqb, ne_eqb}
 use Rattle.property.specs.Words.{some}
 use Rattle.property.specs.declared.table.Statement.{Statement}
 use Rattle.property.proofs.Searching.{some_more, some_here, some_all, map_same}

@@ -4,7 +4,7 @@ use Rattle.forms.specs.Grammars.{form}
 use Rattle.forms.specs.Steps.{Carries}
 use Rattle.kinds.specs.Refusals.{text_number}
 use Rattle.property.specs.Grammar.{any_text, text}
-use Rattle.property.specs.Reads.{ComesNext, Halts, Read, Finished}
+use Rattle.property.specs.Reads.{ComesNext, Read, Finished}
 use Rattle.property.specs.States.{State, Property, moved, routed, closing}
 use Rattle.property.specs.declared.draft.Draft.{Draft}
 use Rattle.property.specs.declared.table.Statement.{Statement}

@@ -1,4 +1,4 @@
-use Rattle.std.proofs.Common.{◌≡◌, sym, ap, ◌∙◌, arith}
+use Rattle.std.proofs.Common.{sym, ◌∙◌, arith}
 use Rattle.property.proofs.Searching.{find_more, find_here, find_all}
 use Rattle.property.proofs.words.find_register.Goals as goal
 

@@ -1,4 +1,4 @@
-use Rattle.std.proofs.Common.{◌≡◌, sym, ap, ◌∙◌}
+use Rattle.std.proofs.Common.{sym, ap, ◌∙◌}
 use Rattle.forms.specs.Bytes.{space, wordy}
 use Rattle.property.specs.Words.{front}
 use Rattle.property.proofs.Texts.{past_passed, front_passed}

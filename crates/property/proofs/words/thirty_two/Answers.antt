@@ -1,4 +1,4 @@
-use Rattle.std.proofs.Common.{◌≡◌, ℕ, leb, sym, ap, ◌∙◌}
+use Rattle.std.proofs.Common.{leb, sym, ap}
 use Rattle.std.proofs.lemmas.List.{length-map}
 use Rattle.property.specs.Views.{declared}
 use Rattle.property.proofs.words.thirty_two.Goals as goal

@@ -1,4 +1,4 @@
-use Rattle.std.proofs.Common.{◌≡◌, suc, length, vec_items, ◌∙◌}
+use Rattle.std.proofs.Common.{suc, length, vec_items, ◌∙◌}
 use Rattle.std.proofs.lemmas.Result.{err_from_is_err_and}
 use Rattle.sources.proofs.Drained.{by_err, lost_one, next_some, taken_more}
 use Rattle.sources.proofs.drain.drain.Goals as goal

@@ -1,4 +1,4 @@
-use Rattle.std.proofs.Common.{◌≡◌, ◌+◌, ◌-◌, ◌<◌, ◌≤◌, List, [], ◌∷◌, ◌++◌, length, take, drop, vec_items, sym, refl, ap, ◌∙◌, append-nil, arith, length-append, take-append-drop}
+use Rattle.std.proofs.Common.{◌≡◌, ◌+◌, ◌≤◌, [], ◌∷◌, ◌++◌, length, take, drop, vec_items, sym, ap, ◌∙◌, append-nil, arith, length-append, take-append-drop}
 use Rattle.engine.specs.Trails.{steps_to}
 use Rattle.engine.proofs.Trails.{steps_none, steps_some, read_link, read_low, read_steps, fill_back, filled_page}
 use Rattle.engine.proofs.book.Book.write.Goals as goal

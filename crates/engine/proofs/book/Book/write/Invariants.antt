@@ -1,4 +1,4 @@
-use Rattle.std.proofs.Common.{◌≡◌, ℕ, ◌+◌, ◌<◌, List, ◌++◌, length, take, drop, vec_items}
+use Rattle.std.proofs.Common.{◌≡◌, ℕ, ◌<◌, List, ◌++◌, length, take, drop, vec_items}
 use Rattle.engine.specs.Trails.{steps_to}
 use Rattle.engine.proofs.book.Book.write.Given as goal
 

@@ -1,4 +1,4 @@
-use Rattle.std.proofs.Common.{◌≡◌, ◌≤◌, true, length, vec_items, sym, ap, ◌∙◌, subst}
+use Rattle.std.proofs.Common.{◌≤◌, length, vec_items, sym, ap, ◌∙◌, subst}
 use Rattle.topl.specs.Lists.{every}
 use Rattle.engine.specs.Views.{sound}
 use Rattle.engine.proofs.Properties.{few_statements}

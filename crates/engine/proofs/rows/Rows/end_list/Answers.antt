@@ -1,4 +1,4 @@
-use Rattle.std.proofs.Common.{◌≡◌, ℕ, ◌+◌, ◌≤◌, min, map, length, vec_items, sym, ap, ◌∙◌, subst, arith}
+use Rattle.std.proofs.Common.{◌≡◌, min, map, length, vec_items, sym, ap, arith}
 use Rattle.topl.proofs.Bounded.{bounded}
 use Rattle.engine.specs.Trails.{room_of}
 use Rattle.engine.specs.Views.{statement}

@@ -1,5 +1,4 @@
-use Rattle.std.proofs.Common.{◌≡◌, ℕ, ◌*◌, ◌<◌, ◌≤◌, length, take, drop, refl, ap, arith}
-use Rattle.engine.specs.Fronts.{entries_at}
+use Rattle.std.proofs.Common.{refl, arith}
 use Rattle.engine.proofs.Opens.{bare_below}
 use Rattle.engine.proofs.rows.Rows.new.Goals as goal
 

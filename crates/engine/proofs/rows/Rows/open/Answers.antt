@@ -1,4 +1,4 @@
-use Rattle.std.proofs.Common.{◌≡◌, ℕ, ◌+◌, ◌*◌, ◌≤◌, length, vec_items, sym, refl, ap, ◌∙◌, arith}
+use Rattle.std.proofs.Common.{vec_items, sym}
 use Rattle.engine.specs.Properties.{table}
 use Rattle.engine.proofs.rows.Rows.open.Goals as goal
 

@@ -1,5 +1,5 @@
-use Rattle.std.proofs.Common.{◌≡◌, ℕ, ◌+◌, ◌<◌, ◌≤◌, [], ◌∷◌, length, vec_items, refl, ap, ◌∙◌, arith, length-append}
-use Rattle.engine.specs.Trails.{steps_to, steps_by}
+use Rattle.std.proofs.Common.{[], ◌∷◌, vec_items, refl, arith, length-append}
+use Rattle.engine.specs.Trails.{steps_to}
 use Rattle.engine.proofs.Trails.{page_written}
 use Rattle.engine.proofs.rows.Rows.path.Goals as goal
 

@@ -1,4 +1,4 @@
-use Rattle.std.proofs.Common.{◌≡◌, ℕ, Bool, eqb, List, map, length, vec_items, sym, ap, ◌∙◌, subst}
+use Rattle.std.proofs.Common.{ℕ, Bool, eqb, List, map, length, vec_items, sym, ap, ◌∙◌}
 use Rattle.property.specs.States.{key, same_key}
 use Rattle.property.specs.Views.{key_of}
 use Rattle.property.specs.Words.{find}

@@ -1,4 +1,4 @@
-use Rattle.std.proofs.Common.{◌≡◌, map, vec_items, sym, ap, ◌∙◌}
+use Rattle.std.proofs.Common.{map, vec_items, sym, ap, ◌∙◌}
 use Rattle.property.specs.States.{fresh_other}
 use Rattle.property.specs.Views.{spelled}
 use Rattle.property.proofs.Pushes.{state_pushed}

@@ -1,4 +1,4 @@
-use Rattle.std.proofs.Common.{◌≡◌, ◌+◌, ◌<◌, ◌≤◌, Bool, true, false, length, get_or, sym, refl, ◌∙◌, subst, arith}
+use Rattle.std.proofs.Common.{◌+◌, ◌<◌, ◌≤◌, Bool, length, get_or, sym, refl, ◌∙◌, subst, arith}
 use Rattle.property.specs.Reads.{Lexed}
 use Rattle.property.proofs.Readings.{lexed_byte, lexed_word, lexed_number, lexed_mark, not_padded, padded_zero, wordless, longer}
 use Rattle.property.proofs.reader.Reader.end.Goals as goal

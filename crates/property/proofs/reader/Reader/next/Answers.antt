@@ -1,4 +1,4 @@
-use Rattle.std.proofs.Common.{◌≡◌, Bool, sym, refl, ◌∙◌, subst, arith}
+use Rattle.std.proofs.Common.{Bool, sym, ◌∙◌, subst, arith}
 use Rattle.property.specs.Reads.{Gapped}
 use Rattle.property.specs.Views.{view}
 use Rattle.property.proofs.Exits.{finished, broken, out}

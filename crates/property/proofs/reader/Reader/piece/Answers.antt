@@ -1,7 +1,6 @@
-use Rattle.std.proofs.Common.{◌≡◌, ℕ, ◌+◌, ◌≤◌, Bool, true, false, length, get_or, sym, refl, ap, ◌∙◌, subst, arith}
+use Rattle.std.proofs.Common.{◌+◌, ◌≤◌, Bool, get_or, sym, refl, ◌∙◌, subst, arith}
 use Rattle.kinds.specs.Refusals.{text_number}
 use Rattle.kinds.specs.declared.text_reason.TextReason.TheVariants as reasons
-use Rattle.property.specs.Grammar.{tight_at}
 use Rattle.property.specs.Reads.{Lexed}
 use Rattle.property.specs.Views.{view}
 use Rattle.property.proofs.Exits.{off, padded, flawed, read, out, at_flaw, spelled_slice}

@@ -1,4 +1,4 @@
-use Rattle.std.proofs.Common.{◌≡◌, Bool, sym, subst}
+use Rattle.std.proofs.Common.{Bool, sym, subst}
 use Rattle.property.specs.Reads.{Gapped}
 use Rattle.property.proofs.Readings.{gap_tight, gap_loose}
 use Rattle.property.proofs.reader.Reader.start.Goals as goal

@@ -1,4 +1,4 @@
-use Rattle.std.proofs.Common.{◌≡◌, sym, ap, ◌∙◌}
+use Rattle.std.proofs.Common.{sym, ap, ◌∙◌}
 use Rattle.sources.specs.Events.{index_at}
 use Rattle.sources.specs.Sayings.{says}
 use Rattle.sources.proofs.Places.{at_index, no_index}

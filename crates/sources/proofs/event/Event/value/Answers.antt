@@ -1,4 +1,4 @@
-use Rattle.std.proofs.Common.{◌<◌, ◌≤◌, length, rules}
+use Rattle.std.proofs.Common.{◌≤◌, length, rules}
 use Rattle.sources.proofs.Places.{at_front, past_front}
 use Rattle.sources.proofs.event.Event.value.Goals as goal
 

@@ -1,5 +1,4 @@
-use Rattle.std.proofs.Common.{◌≡◌, true, false, map, length, Some, None, vec_items, sym, refl, ap, ◌∙◌, subst, arith}
-use Rattle.topl.specs.Ledger.{begin_reason, opening_reason}
+use Rattle.std.proofs.Common.{map, length, vec_items, sym, refl, ap, ◌∙◌, subst}
 use Rattle.engine.specs.Meant.{meant}
 use Rattle.engine.proofs.Properties.{lawful}
 use Rattle.engine.specs.Opening.{Opens}

@@ -1,6 +1,6 @@
 use prog.Memory.{align, size}
 use denote.Memory.{lone}
-use Rattle.std.proofs.Common.{◌≡◌, sym, ◌∙◌, subst}
+use Rattle.std.proofs.Common.{sym, ◌∙◌, subst}
 use Rattle.topl.proofs.Calls.{phase_runs}
 use Rattle.watch.specs.Shows.{Shows}
 use Rattle.watch.proofs.Deciding.{lent_one, close_ruled}

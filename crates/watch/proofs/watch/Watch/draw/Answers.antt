@@ -1,6 +1,5 @@
-use Rattle.std.proofs.Common.{◌≡◌, [], ◌∷◌, Some, Ok, Err, sym, ap, ◌∙◌, subst}
+use Rattle.std.proofs.Common.{◌≡◌, ◌∷◌, Ok, Err, sym, ap, ◌∙◌, subst}
 use Rattle.std.proofs.lemmas.Result.{err_from_is_err_and}
-use Rattle.kinds.specs.declared.refusal.Ending.TheVariants.{Refused}
 use Rattle.topl.specs.Ledger.{refused, passed_on, Draws}
 use Rattle.sources.specs.Sayings.{says}
 use Rattle.sources.specs.Sources.{Next}

@@ -1,6 +1,6 @@
 use prog.Memory.{align, size}
 use denote.Memory.{lone}
-use Rattle.std.proofs.Common.{map, ◌≡◌, length, Some, None, sym, ap, ◌∙◌, subst}
+use Rattle.std.proofs.Common.{map, ◌≡◌, Some, None, sym, ap, ◌∙◌, subst}
 use Rattle.std.proofs.lemmas.List.{length-map}
 use Rattle.topl.specs.Theorems.{seen}
 use Rattle.topl.specs.Ledger.{event_reason, count_reason}

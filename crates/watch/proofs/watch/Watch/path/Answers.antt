@@ -1,5 +1,4 @@
-use Rattle.std.proofs.Common.{◌<◌, vec_items, sym, ◌∙◌, subst, arith}
-use Rattle.engine.specs.Trails.{steps_by, Written}
+use Rattle.std.proofs.Common.{sym, ◌∙◌, arith}
 use Rattle.watch.proofs.Asking.{path_refused, path_wrote, path_short}
 use Rattle.watch.proofs.watch.Watch.path.Goals as goal
 

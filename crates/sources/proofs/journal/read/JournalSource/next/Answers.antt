@@ -1,4 +1,4 @@
-use Rattle.std.proofs.Common.{◌≡◌, Err, sym, refl, ap, ◌∙◌, subst}
+use Rattle.std.proofs.Common.{Err, sym, refl, ap, ◌∙◌, subst}
 use Rattle.std.proofs.lemmas.Result.{err_from_is_err_and}
 use Rattle.sources.proofs.Drained.{by_err}
 use Rattle.sources.proofs.Walked.{next_end, next_refused, next_taken}
