@@ -20,7 +20,7 @@ pub struct Table {
 
 impl Table {
     // The table that no text has filled yet.
-    pub(crate) fn empty(heap: Global) -> Table
+    pub fn empty(heap: Global) -> Table
         ensures { table result.methods.items result.constants.items result.statements.items ≡ empty_table }
     {
         Table {
