@@ -8,7 +8,7 @@ use kinds::kind::Kind;
 
 pub mod calls;
 
-// The table that was lent, the rows of configurations, and what else is kept. Fewer than 16,384 events are judged while it runs.
+// The table that was lent, the rows of configurations, and what else is kept. At most 16,384 events are judged.
 #[derive(Drop)]
 pub struct Watch<'a, K: Kind> {
     table: Option<&'a Table>,
