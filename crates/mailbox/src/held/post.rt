@@ -1,8 +1,7 @@
 // Putting events into a mailbox, and taking them out.
 ghost use Rattle.std.specs.Prelude.{◌≡◌, min, [], IfOk};
-ghost use Rattle.std.specs.VecDeque.{deque_capacity};
 ghost use Rattle.kinds.specs.declared.refusal.Ending.TheVariants.{End};
-ghost use Rattle.mailbox.specs.Mail.{FirstOut, Put, all_lawful, places, waits};
+ghost use Rattle.mailbox.specs.Mail.{Put, all_lawful, places, waits};
 
 use crate::held::Mailbox;
 use kinds::kind::Kind;
@@ -26,25 +25,13 @@ fn refusal(reason: Reason, place: usize) -> Refusal
     }
 }
 
-// The place of the event that is handed over next.
-const FIRST: usize = 0;
-
-// Takes the first of a queue out of it.
-fn take_first<T>(queue: &mut VecDeque<T>) -> Option<T>
-    ensures out { FirstOut queue.old result queue.new }
-    ensures capacity { deque_capacity queue.new ≡ deque_capacity queue.old }
-{
-    queue.remove(FIRST)
-}
-
 impl<K: Kind> Mailbox<K> {
     // An empty mailbox with so many places, and never with more than 64.
     pub fn new(heap: Global, room: usize) -> Result<Mailbox<K>, AllocError>
         ensures { IfOk result (λ m. (waits m ≡ []) × (places m ≡ min room 64)) }
     {
-        let room = room.min(MOST_PLACES);
-        let queue = VecDeque::with_capacity(heap, room)?;
-        Ok(Mailbox { queue, room })
+        let queue = VecDeque::with_capacity(heap, room.min(MOST_PLACES))?;
+        Ok(Mailbox { queue })
     }
 
     // Puts an event behind the others, or tells why it cannot be put.
@@ -53,11 +40,8 @@ impl<K: Kind> Mailbox<K> {
         ensures room { places self.new ≡ places self.old }
     {
         let place = self.queue.len();
-        let event = match Event::new(K::nothing(), id, values) {
-            Ok(event) => event,
-            Err(reason) => return Err(refusal(reason, place)),
-        };
-        if place >= self.room {
+        let event = Event::new(K::nothing(), id, values).map_err(|reason| refusal(reason, place))?;
+        if place >= self.queue.capacity() {
             return Err(refusal(Reason::NoRoom, place));
         }
         self.queue.push_back_reserved(event);
@@ -73,6 +57,6 @@ impl<K: Kind> Source<K> for Mailbox<K> {
     ghost lawful = { λ m. all_lawful m.queue.items };
 
     fn next(&mut self) -> Result<Option<Event<K::Value>>, Refusal> {
-        Ok(take_first(&mut self.queue))
+        Ok(self.queue.pop_front())
     }
 }
