@@ -1,5 +1,6 @@
 -- The listing of a journal.
 use Rattle.std.specs.Prelude.{◌≡◌, ℕ, cond, List, [], ◌∷◌, ◌++◌, map, length, take, Some, None, codes, decimal, Option, Result, ◌==◌, slice_index}
+use Rattle.std.specs.List.{flat_map}
 use Rattle.kinds.specs.declared.refusal.Ending.{Ending}
 use Rattle.kinds.specs.declared.refusal.Ending.TheVariants.{End, Refused}
 use Rattle.kinds.specs.declared.refusal.Fault.{Fault}
@@ -32,8 +33,7 @@ module _ {V : Type 0} (shown : V → List ℕ) where
 
   -- The lines of some events.
   abbrev pub lines_of : List (Happening V) → List ℕ
-  lines_of [] = []
-  lines_of (h ∷ hs) = event_line h ++ lines_of hs
+  lines_of = flat_map event_line
 
 -- The listing of some events and their ending.
 abbrev pub listing_as : {V : Type 0} → List ℕ → (V → List ℕ) → List (Happening V) → Ending → List ℕ
