@@ -10,7 +10,7 @@ use crate::shown::Shown;
 use kinds::kind::Kind;
 use kinds::labels::Labels;
 use kinds::numbers::Numbers;
-use kinds::refusal::{Ending, Refusal};
+use kinds::refusal::Refusal;
 use narrow::filter::Narrow;
 use sources::drain::{Drained, drain};
 use sources::event::Event;
@@ -55,12 +55,16 @@ fn print_events<K: Shown>(page: &mut Page, events: &[Event<K::Value>]) -> Result
 }
 
 // Prints the last line: how many events there were, or the refusal that stands behind them.
-fn print_ending(page: &mut Page, count: usize, ending: Ending) -> Result<(), AllocError>
+fn print_ending(
+    page: &mut Page,
+    count: usize,
+    ending: Result<(), Refusal>,
+) -> Result<(), AllocError>
     ensures { Writes result page.old (last_line count ending) page.new }
 {
     match ending {
-        Ending::End => writeln!(page, "end {count}"),
-        Ending::Refused(refusal) => print_refusal(page, &refusal),
+        Ok(()) => writeln!(page, "end {count}"),
+        Err(refusal) => print_refusal(page, &refusal),
     }
 }
 
@@ -68,13 +72,7 @@ fn print_ending(page: &mut Page, count: usize, ending: Ending) -> Result<(), All
 fn print_refusal(page: &mut Page, refusal: &Refusal) -> Result<(), AllocError>
     ensures { Writes result page.old (refusal_line refusal.now) page.new }
 {
-    writeln!(
-        page,
-        "refused {} {} {}",
-        refusal.layer.name(),
-        refusal.reason.number(),
-        refusal.place
-    )
+    writeln!(page, "refused {refusal}")
 }
 
 // Prints the line that names the kind.
@@ -107,7 +105,7 @@ fn print_journal<K: Shown>(
     bytes: &[u8],
     methods: Option<&[u16]>,
 ) -> Result<(), AllocError>
-    ensures { (out : List ℕ) × Lists K.Kind.code K.Kind.reads K.Shown.title K.Shown.shown (option_map (λ x. x.now) methods.entry) bytes.now out × Writes result page.old out page.new }
+    ensures { (out : List ℕ) × Lists K.Kind.NUMBER K.Kind.reads K.Shown.title K.Shown.shown (option_map (λ x. x.now) methods.entry) bytes.now out × Writes result page.old out page.new }
 {
     match Journal::<K>::open(bytes) {
         Ok(mut journal) => match methods {

@@ -1,6 +1,5 @@
 // Putting events into a mailbox, and taking them out.
-ghost use Rattle.std.specs.Prelude.{◌≡◌, min, [], IfOk};
-ghost use Rattle.kinds.specs.declared.refusal.Ending.TheVariants.{End};
+ghost use Rattle.std.specs.Prelude.{◌≡◌, min, [], IfOk, Ok};
 ghost use Rattle.mailbox.specs.Mail.{Put, all_lawful, places, waits};
 
 use crate::held::Mailbox;
@@ -13,17 +12,6 @@ use std::collections::VecDeque;
 
 // The most places that a mailbox has.
 const MOST_PLACES: usize = 64;
-
-// A refusal of the mailbox's own.
-fn refusal(reason: Reason, place: usize) -> Refusal
-    ensures { result ≡ record { layer = Layer.Mailbox; reason = reason; place = place } }
-{
-    Refusal {
-        layer: Layer::Mailbox,
-        reason,
-        place,
-    }
-}
 
 impl<K: Kind> Mailbox<K> {
     // An empty mailbox with so many places, and never with more than 64.
@@ -40,9 +28,10 @@ impl<K: Kind> Mailbox<K> {
         ensures room { places self.new ≡ places self.old }
     {
         let place = self.queue.len();
-        let event = Event::new(K::nothing(), id, values).map_err(|reason| refusal(reason, place))?;
+        let refusal = |reason| Layer::Mailbox.refusal(reason, place);
+        let event = Event::new(K::nothing(), id, values).map_err(refusal)?;
         if place >= self.queue.capacity() {
-            return Err(refusal(Reason::NoRoom, place));
+            return Err(refusal(Reason::NoRoom));
         }
         self.queue.push_back_reserved(event);
         Ok(())
@@ -52,7 +41,7 @@ impl<K: Kind> Mailbox<K> {
 impl<K: Kind> Source<K> for Mailbox<K> {
     ghost waiting = { λ m. waits m };
 
-    ghost ending = { λ _. End };
+    ghost ending = { λ _. Ok tt };
 
     ghost lawful = { λ m. all_lawful m.queue.items };
 
