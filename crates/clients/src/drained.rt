@@ -1,7 +1,6 @@
 // What is left of a source below one narrowing or two.
-ghost use Rattle.std.specs.Prelude.{◌≡◌, map, take, IfOk};
+ghost use Rattle.std.specs.Prelude.{◌≡◌, map, take, IfOk, Ok};
 ghost use Rattle.kinds.specs.Numbers.{number_value};
-ghost use Rattle.kinds.specs.declared.refusal.Ending.TheVariants.{End};
 ghost use Rattle.mailbox.specs.Mail.{waits};
 ghost use Rattle.narrow.specs.Narrowing.{only};
 ghost use Rattle.sources.specs.Opening.{ahead};
@@ -22,10 +21,9 @@ pub fn drain_mailbox(
     mailbox: Mailbox<Labels>,
     methods: &[u16],
 ) -> Result<Drained<Label>, AllocError>
-    ensures { IfOk result (λ d. (map says d.events.items ≡ only (take 32 methods.now) (waits mailbox)) × (d.ending ≡ End)) }
+    ensures { IfOk result (λ d. (map says d.events.items ≡ only (take 32 methods.now) (waits mailbox)) × (d.ending ≡ Ok tt)) }
 {
-    let mut narrow = Narrow::new(mailbox, methods);
-    drain::<Labels, Narrow<Mailbox<Labels>>>(heap, &mut narrow)
+    drain::<Labels, _>(heap, &mut Narrow::new(mailbox, methods))
 }
 
 // The events of a journal of numbers whose methods two lists have.
@@ -38,5 +36,5 @@ pub fn drain_twice(
     ensures { IfOk result (λ d. (map says d.events.items ≡ only (take 32 others.now) (only (take 32 some.now) (ahead number_value journal.entry).waits)) × (d.ending ≡ (ahead number_value journal.entry).ends)) }
 {
     let mut narrow = Narrow::new(Narrow::new(journal, some), others);
-    drain::<Numbers, Narrow<Narrow<Journal<Numbers>>>>(heap, &mut narrow)
+    drain::<Numbers, _>(heap, &mut narrow)
 }

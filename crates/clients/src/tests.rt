@@ -2,20 +2,11 @@ use crate::drained::{drain_mailbox, drain_twice};
 use kinds::kind::Kind;
 use kinds::labels::Labels;
 use kinds::numbers::Numbers;
-use kinds::refusal::{Ending, Layer, Reason, Refusal};
+use kinds::refusal::{Layer, Reason};
 use mailbox::held::Mailbox;
 use sources::journal::Journal;
 use sources::source::Source;
 use std::test::Fail;
-
-// A refusal of a mailbox.
-fn turned_away(reason: Reason, place: usize) -> Refusal {
-    Refusal {
-        layer: Layer::Mailbox,
-        reason,
-        place,
-    }
-}
 
 // The worked day, of which the second list leaves one call, and then a record that is cut.
 #[test]
@@ -24,14 +15,7 @@ fn narrows_twice(rt: HostRuntime) -> Result<(), Fail> {
     let journal: Journal<Numbers> = Journal::open(&day)?;
     let left = drain_twice(rt.alloc(), journal, &[3, 5], &[9, 5])?;
     assert_eq!(rt; left.events.len(), 1);
-    assert_eq!(rt;
-        left.ending,
-        Ending::Refused(Refusal {
-            layer: Layer::Number,
-            reason: Reason::Cut,
-            place: 17,
-        })
-    );
+    assert_eq!(rt; left.ending, Err(Layer::Number.refusal(Reason::Cut, 17)));
     Ok(())
 }
 
@@ -41,16 +25,9 @@ fn stays_at_a_refused_record(rt: HostRuntime) -> Result<(), Fail> {
     let day = [1, 2, 10, 0, 6, 1, 2, 0x48, 0x20];
     let mut journal: Journal<Labels> = Journal::open(&day)?;
     assert!(rt; journal.next()?.is_some());
-    let bad = Refusal {
-        layer: Layer::Value,
-        reason: Reason::BadLabel,
-        place: 6,
-    };
+    let bad = Layer::Value.refusal(Reason::BadLabel, 6);
     for _ in 0..2 {
-        match journal.next() {
-            Ok(_) => return Err(Fail::new("the record was accepted")),
-            Err(refusal) => assert_eq!(rt; refusal, bad),
-        }
+        assert_eq!(rt; journal.next().err(), Some(bad));
         assert_eq!(rt; journal.place(), 4);
     }
     Ok(())
@@ -63,19 +40,22 @@ fn fills_a_mailbox(rt: HostRuntime) -> Result<(), Fail> {
     let mut mailbox: Mailbox<Labels> = Mailbox::new(rt.alloc(), 2)?;
     assert_eq!(rt;
         mailbox.put(131_072, &[]),
-        Err(turned_away(Reason::WildId, 0))
+        Err(Layer::Mailbox.refusal(Reason::WildId, 0))
     );
     assert_eq!(rt;
         mailbox.put(7, &[label, label]),
-        Err(turned_away(Reason::TooManyValues, 0))
+        Err(Layer::Mailbox.refusal(Reason::TooManyValues, 0))
     );
     mailbox.put(6, &[label])?;
     mailbox.put(8, &[])?;
-    assert_eq!(rt; mailbox.put(10, &[]), Err(turned_away(Reason::NoRoom, 2)));
+    assert_eq!(rt;
+        mailbox.put(10, &[]),
+        Err(Layer::Mailbox.refusal(Reason::NoRoom, 2))
+    );
     assert!(rt; mailbox.next()?.is_some());
     mailbox.put(10, &[])?;
     let left = drain_mailbox(rt.alloc(), mailbox, &[5])?;
     assert_eq!(rt; left.events.len(), 1);
-    assert_eq!(rt; left.ending, Ending::End);
+    assert_eq!(rt; left.ending, Ok(()));
     Ok(())
 }

@@ -1,5 +1,6 @@
 -- Lines of output: words parted by one space, ended by 0A.
 use Rattle.std.specs.Prelude.{◌≡◌, ℕ, List, [], ◌∷◌, ◌++◌, IfOk, Some, None, vec_items, codes, decimal, Option, Result}
+use Rattle.std.specs.List.{flat_map}
 use Rattle.kinds.specs.Refusals.{name_of, number_of}
 use Rattle.kinds.specs.declared.refusal.Refusal.{Refusal}
 use Rattle.day.specs.declared.page.Page.{Page}
@@ -18,8 +19,7 @@ field word = 32 ∷ word
 
 -- Words, each after a space, and 0A behind the last.
 abbrev pub ended : List (List ℕ) → List ℕ
-ended [] = 10 ∷ []
-ended (word ∷ words) = field word ++ ended words
+ended words = flat_map field words ++ 10 ∷ []
 
 -- A line: a first word, and the others behind it.
 abbrev pub line : List ℕ → List (List ℕ) → List ℕ

@@ -1,9 +1,9 @@
 -- The listing of a journal.
-use Rattle.std.specs.Prelude.{◌≡◌, ℕ, cond, List, [], ◌∷◌, ◌++◌, map, length, take, Some, None, codes, decimal, Option, Result, ◌==◌, slice_index}
-use Rattle.kinds.specs.declared.refusal.Ending.{Ending}
-use Rattle.kinds.specs.declared.refusal.Ending.TheVariants.{End, Refused}
+use Rattle.std.specs.Prelude.{◌≡◌, ℕ, cond, List, [], ◌∷◌, ◌++◌, map, length, take, Some, None, Ok, Err, codes, decimal, Option, Result, ◌==◌, slice_index}
+use Rattle.std.specs.List.{flat_map}
 use Rattle.kinds.specs.declared.refusal.Fault.{Fault}
 use Rattle.kinds.specs.declared.refusal.Refusal.{Refusal}
+use Rattle.kinds.specs.Refusals.{Ending}
 use Rattle.kinds.specs.Labels.{label_read, spelling}
 use Rattle.kinds.specs.Numbers.{number_value}
 use Rattle.narrow.specs.Narrowing.{only}
@@ -18,8 +18,8 @@ kind_line title = line (codes "journal") (title ∷ [])
 
 -- The last line: how many events there were, or the refusal that stands behind them.
 abbrev pub last_line : ℕ → Ending → List ℕ
-last_line count End = line (codes "end") (decimal count ∷ [])
-last_line count (Refused f) = refusal_line f
+last_line count (Ok _) = line (codes "end") (decimal count ∷ [])
+last_line count (Err f) = refusal_line f
 
 -- An event is a call or a return.
 abbrev pub verb_of : ℕ → List ℕ
@@ -32,8 +32,7 @@ module _ {V : Type 0} (shown : V → List ℕ) where
 
   -- The lines of some events.
   abbrev pub lines_of : List (Happening V) → List ℕ
-  lines_of [] = []
-  lines_of (h ∷ hs) = event_line h ++ lines_of hs
+  lines_of = flat_map event_line
 
 -- The listing of some events and their ending.
 abbrev pub listing_as : {V : Type 0} → List ℕ → (V → List ℕ) → List (Happening V) → Ending → List ℕ

@@ -1,15 +1,16 @@
 // The listing of a journal: its kind, a line for each event, and how it ends.
-ghost use Rattle.std.specs.Prelude.{◌≡◌, ℕ, List, map, length, IfOk, ◌==◌, slice_index};
+ghost use Rattle.std.specs.Prelude.{◌≡◌, ℕ, List, map, IfOk};
 ghost use Rattle.std.specs.Option.{option_map};
-ghost use Rattle.day.specs.Lines.{Writes, ended};
-ghost use Rattle.day.specs.Listing.{JournalListed, LabelsListed, NumbersListed, event_line, kind_line, last_line, lines_of, listing_as, verb_of};
+ghost use Rattle.day.specs.Lines.{Writes, ended, refusal_line};
+ghost use Rattle.day.specs.Listing.{JournalListed, Lists, event_line, kind_line, last_line, lines_of, listing_as, verb_of};
 ghost use Rattle.sources.specs.Sayings.{says};
 
 use crate::page::Page;
 use crate::shown::Shown;
+use kinds::kind::Kind;
 use kinds::labels::Labels;
 use kinds::numbers::Numbers;
-use kinds::refusal::Ending;
+use kinds::refusal::Refusal;
 use narrow::filter::Narrow;
 use sources::drain::{Drained, drain};
 use sources::event::Event;
@@ -39,8 +40,7 @@ fn verb<V: Copy>(event: &Event<V>) -> &'static str
 fn print_event<K: Shown>(page: &mut Page, event: &Event<K::Value>) -> Result<(), AllocError>
     ensures { Writes result page.old (event_line K.Shown.shown (says event.now)) page.new }
 {
-    page.word(verb(event))?;
-    page.number_field(u64::from(event.method()))?;
+    write!(page, "{} {}", verb(event), event.method())?;
     print_values::<K>(page, event.values())
 }
 
@@ -55,26 +55,31 @@ fn print_events<K: Shown>(page: &mut Page, events: &[Event<K::Value>]) -> Result
 }
 
 // Prints the last line: how many events there were, or the refusal that stands behind them.
-fn print_ending(page: &mut Page, count: usize, ending: Ending) -> Result<(), AllocError>
+fn print_ending(
+    page: &mut Page,
+    count: usize,
+    ending: Result<(), Refusal>,
+) -> Result<(), AllocError>
     ensures { Writes result page.old (last_line count ending) page.new }
 {
     match ending {
-        Ending::End => {
-            page.write(b"end")?;
-            page.number_field(count as u64)?;
-            page.write(b"\n")
-        }
-        Ending::Refused(refusal) => page.refusal(&refusal),
+        Ok(()) => writeln!(page, "end {count}"),
+        Err(refusal) => print_refusal(page, &refusal),
     }
+}
+
+// Prints the line that tells a refusal.
+fn print_refusal(page: &mut Page, refusal: &Refusal) -> Result<(), AllocError>
+    ensures { Writes result page.old (refusal_line refusal.now) page.new }
+{
+    writeln!(page, "refused {refusal}")
 }
 
 // Prints the line that names the kind.
 fn print_kind<K: Shown>(page: &mut Page) -> Result<(), AllocError>
     ensures { Writes result page.old (kind_line K.Shown.title) page.new }
 {
-    page.write(b"journal")?;
-    page.field(K::title())?;
-    page.write(b"\n")
+    writeln!(page, "journal {}", K::title())
 }
 
 // Prints what was drained of a source.
@@ -87,58 +92,28 @@ fn print_day<K: Shown>(page: &mut Page, day: &Drained<K::Value>) -> Result<(), A
 }
 
 // Drains a source and prints what it held.
-fn print_source<K: Shown, S: Source<K>>(
-    heap: Global,
-    page: &mut Page,
-    source: &mut S,
-) -> Result<(), AllocError>
+fn print_source<K: Shown, S: Source<K>>(page: &mut Page, source: &mut S) -> Result<(), AllocError>
     ensures { Writes result page.old (listing_as K.Shown.title K.Shown.shown (S.Source.waiting source.old) (S.Source.ending source.old)) page.new }
 {
-    let day = drain::<K, S>(heap, source)?;
+    let day = drain::<K, _>(page.heap(), source)?;
     print_day::<K>(page, &day)
 }
 
-// Prints a journal of one kind, all of it or the events of some methods.
-macro_rules! print_journal {
-    ($kind:ty, $heap:expr, $page:expr, $bytes:expr, $methods:expr) => {
-        match Journal::<$kind>::open($bytes) {
-            Ok(journal) => match $methods {
-                Some(methods) => {
-                    let mut narrow = Narrow::new(journal, methods);
-                    print_source::<$kind, Narrow<Journal<$kind>>>($heap, $page, &mut narrow)
-                }
-                None => {
-                    let mut journal = journal;
-                    print_source::<$kind, Journal<$kind>>($heap, $page, &mut journal)
-                }
-            },
-            Err(refusal) => $page.refusal(&refusal),
-        }
-    };
-}
-
-// Prints a journal of numbers.
-fn print_numbers(
-    heap: Global,
+// Prints a journal of one kind: all of it, or the events of some methods.
+fn print_journal<K: Shown>(
     page: &mut Page,
     bytes: &[u8],
     methods: Option<&[u16]>,
 ) -> Result<(), AllocError>
-    ensures { (out : List ℕ) × NumbersListed (option_map (λ x. x.now) methods.entry) bytes.now out × Writes result page.old out page.new }
+    ensures { (out : List ℕ) × Lists K.Kind.NUMBER K.Kind.reads K.Shown.title K.Shown.shown (option_map (λ x. x.now) methods.entry) bytes.now out × Writes result page.old out page.new }
 {
-    print_journal!(Numbers, heap, page, bytes, methods)
-}
-
-// Prints a journal of labels.
-fn print_labels(
-    heap: Global,
-    page: &mut Page,
-    bytes: &[u8],
-    methods: Option<&[u16]>,
-) -> Result<(), AllocError>
-    ensures { (out : List ℕ) × LabelsListed (option_map (λ x. x.now) methods.entry) bytes.now out × Writes result page.old out page.new }
-{
-    print_journal!(Labels, heap, page, bytes, methods)
+    match Journal::<K>::open(bytes) {
+        Ok(mut journal) => match methods {
+            Some(methods) => print_source::<K, _>(page, &mut Narrow::new(journal, methods)),
+            None => print_source::<K, _>(page, &mut journal),
+        },
+        Err(refusal) => print_refusal(page, &refusal),
+    }
 }
 
 // The listing of a journal, whose second byte chooses the kind: of all its events, or of those of some methods.
@@ -146,17 +121,9 @@ pub fn listing(heap: Global, bytes: &[u8], methods: Option<&[u16]>) -> Result<Ve
     ensures { IfOk result (λ out. JournalListed (option_map (λ x. x.now) methods.entry) bytes.now out.items) }
 {
     let mut page = Page::new(heap);
-    if names_labels(bytes) {
-        print_labels(heap, &mut page, bytes, methods)?;
-    } else {
-        print_numbers(heap, &mut page, bytes, methods)?;
+    match bytes {
+        [_, Labels::NUMBER, ..] => print_journal::<Labels>(&mut page, bytes, methods)?,
+        _ => print_journal::<Numbers>(&mut page, bytes, methods)?,
     }
     Ok(page.into_bytes())
-}
-
-// Whether a journal's second byte names the kind of labels.
-fn names_labels(bytes: &[u8]) -> bool
-    ensures { result ≡ (slice_index bytes.now 1 == 2) }
-{
-    bytes.len() > 1 && bytes[1] == 2
 }

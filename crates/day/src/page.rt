@@ -1,11 +1,11 @@
 // The bytes that a program is to print.
-ghost use Rattle.std.specs.Prelude.{◌≡◌, [], decimal};
-ghost use Rattle.day.specs.Lines.{Writes, field, refusal_line, written};
+ghost use Rattle.std.specs.Prelude.{◌≡◌, [], IfSome};
+ghost use Rattle.day.specs.Lines.{Writes, written};
 
-use kinds::refusal::Refusal;
 use std::alloc::{AllocError, Global};
+use std::fmt::Display;
 
-// What is written so far, and where its memory comes from.
+// What is written so far, and where its memory comes from; a label is bytes, so these are bytes too.
 #[derive(Drop)]
 pub(crate) struct Page {
     heap: Global,
@@ -23,6 +23,13 @@ impl Page {
         }
     }
 
+    // Where memory comes from.
+    pub(crate) fn heap(&self) -> Global
+        ensures { result ≡ self.now.heap }
+    {
+        self.heap
+    }
+
     // Writes some bytes.
     pub(crate) fn write(&mut self, text: &[u8]) -> Result<(), AllocError>
         ensures { Writes result self.old text.now self.new }
@@ -30,46 +37,12 @@ impl Page {
         self.bytes.extend_from_slice(text)
     }
 
-    // Writes a word.
-    pub(crate) fn word(&mut self, word: &str) -> Result<(), AllocError>
-        ensures { Writes result self.old word.now self.new }
+    // Writes what a value prints; `write!` calls it.
+    pub(crate) fn write_fmt<D: Display + Drop>(&mut self, value: D) -> Result<(), AllocError>
+        ensures { IfSome (D.output value) (λ text. Writes result self.old text self.new) }
     {
-        self.write(word.as_bytes())
-    }
-
-    // Writes a number in decimal.
-    pub(crate) fn number(&mut self, n: u64) -> Result<(), AllocError>
-        ensures { Writes result self.old (decimal n) self.new }
-    {
-        let digits = format!(in self.heap; "{n}")?;
-        self.word(digits.as_str())
-    }
-
-    // Writes a space and then a number.
-    pub(crate) fn number_field(&mut self, n: u64) -> Result<(), AllocError>
-        ensures { Writes result self.old (field (decimal n)) self.new }
-    {
-        self.write(b" ")?;
-        self.number(n)
-    }
-
-    // Writes a space and then a word.
-    pub(crate) fn field(&mut self, word: &str) -> Result<(), AllocError>
-        ensures { Writes result self.old (field word.now) self.new }
-    {
-        self.write(b" ")?;
-        self.word(word)
-    }
-
-    // Writes the line that tells a refusal.
-    pub(crate) fn refusal(&mut self, refusal: &Refusal) -> Result<(), AllocError>
-        ensures { Writes result self.old (refusal_line refusal.now) self.new }
-    {
-        self.write(b"refused")?;
-        self.field(refusal.layer.name())?;
-        self.number_field(u64::from(refusal.reason.number()))?;
-        self.number_field(refusal.place as u64)?;
-        self.write(b"\n")
+        let text = String::format(self.heap, value)?;
+        self.write(text.as_str().as_bytes())
     }
 
     // All that was written.

@@ -18,7 +18,7 @@ pub(crate) trait Shown: Kind {
     // What is printed of a value.
     ghost shown: { Self.Value → List ℕ };
 
-    // The name of the kind.
+    // The name of the kind. Kept a function: clauses see a constant `&str` as a reference (`Bor (List ℕ)`), whose address no impl can give.
     fn title() -> &'static str
         ensures { result.now ≡ title };
 
@@ -37,9 +37,9 @@ impl Shown for Numbers {
     }
 
     fn print(value: &Option<u64>, page: &mut Page) -> Result<(), AllocError> {
-        match *value {
-            Some(n) => page.number(n),
-            None => page.write(b""),
+        match value {
+            Some(n) => write!(page, "{n}"),
+            None => Ok(()),
         }
     }
 }

@@ -1,8 +1,6 @@
 -- A mailbox is a queue of events with so many places.
-use Rattle.std.specs.Prelude.{◌≡◌, ℕ, ◌+◌, ◌<◌, ◌≤◌, ◌⊎◌, List, [], ◌∷◌, ◌++◌, map, length, Ok, Err, Option, Result, MatchOption, slice_index_or}
-use Rattle.std.specs.VecDeque.{deque_items, deque_len}
-use Rattle.std.specs.List.{remove}
-use Rattle.std.specs.declared.collections.VecDeque.{VecDeque}
+use Rattle.std.specs.Prelude.{◌≡◌, ℕ, ◌<◌, ◌≤◌, ◌⊎◌, List, [], ◌∷◌, ◌++◌, map, length, Ok, Err, Result}
+use Rattle.std.specs.VecDeque.{deque_capacity, deque_items}
 use Rattle.kinds.specs.declared.kind.Kind.{Ghosts}
 use Rattle.kinds.specs.declared.refusal.Layer.TheVariants.{Mailbox as mailbox}
 use Rattle.kinds.specs.declared.refusal.Reason.{Reason}
@@ -21,7 +19,7 @@ waits m = map says (deque_items m.queue)
 
 -- How many events a mailbox can hold.
 abbrev pub places : {K V : Type 0} {G : Ghosts K V} → Mailbox K V G → ℕ
-places m = m.room
+places m = deque_capacity m.queue
 
 -- Why an event is not put: 4 or 5 where there is no such event, and then 50 where every place is taken.
 abbrev pub Unfit : {V : Type 0} → ℕ → ℕ → Happening V → Reason → Type 0
@@ -31,12 +29,6 @@ Unfit room held h r = Unlawful h r ⊎ ((r ≡ NoRoom) × Lawful h × (room ≤ 
 abbrev pub Put : {V : Type 0} → ℕ → List (Happening V) → Happening V → Result (Unit {0}) Refusal → List (Happening V) → Type 0
 Put room hs h (Ok _) hs' = Lawful h × (length hs < room) × (hs' ≡ hs ++ h ∷ [])
 Put room hs h (Err f) hs' = Unfit room (length hs) h f.reason × (f.layer ≡ mailbox) × (f.place ≡ length hs) × (hs' ≡ hs)
-
--- The first of a queue is taken out of it; an empty queue stays as it is.
-abbrev pub FirstOut : {X Z : Type 0} → VecDeque X Z → Option X → VecDeque X Z → Type 0
-FirstOut q r q' =
-    MatchOption r ((deque_len q ≤ 0) × (q' ≡ q))
-    (λ x. (x ≡ slice_index_or (deque_items q) 0 x) × ((deque_items q' ≡ remove (deque_items q) 0) × ((deque_len q' + 1 ≡ deque_len q) × (0 < deque_len q))))
 
 -- Why only lawful events wait; the source's ghost member cites it.
 pub all_lawful : {V : Type 0} (es : List (Event V)) → AllLawful (map says es)

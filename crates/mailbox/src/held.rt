@@ -1,6 +1,6 @@
 // A mailbox, as it is held.
 ghost use Rattle.std.specs.Prelude.{◌≤◌};
-ghost use Rattle.std.specs.VecDeque.{deque_len, deque_capacity};
+ghost use Rattle.std.specs.VecDeque.{deque_capacity, deque_len};
 
 use kinds::kind::Kind;
 use sources::event::Event;
@@ -12,7 +12,5 @@ pub mod post;
 #[derive(Drop)]
 pub struct Mailbox<K: Kind> {
     queue: VecDeque<Event<K::Value>>,
-    room: usize,
-    ghost reserved: { room ≤ deque_capacity queue },
-    ghost bounded: { (deque_len queue ≤ room) × (room ≤ 64) },
+    ghost bounded: { (deque_len queue ≤ deque_capacity queue) × (deque_capacity queue ≤ 64) },
 }

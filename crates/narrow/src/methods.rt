@@ -3,10 +3,14 @@ ghost use Rattle.std.specs.Prelude.{◌≤◌};
 
 pub mod table;
 
-// At most 32 methods; the numbers past the count mean nothing.
+// The most methods that a table has.
+pub(crate) const MOST_METHODS: usize = 32;
+
+// Some methods; the numbers past the count mean nothing.
+// Kept an array and a count: the table is Copy, and an ArrayVec is not.
 #[derive(Clone, Copy)]
 pub struct Methods {
-    numbers: [u16; 32],
+    numbers: [u16; MOST_METHODS],
     count: usize,
     ghost few: { count ≤ 32 },
 }

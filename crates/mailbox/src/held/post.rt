@@ -1,8 +1,6 @@
 // Putting events into a mailbox, and taking them out.
-ghost use Rattle.std.specs.Prelude.{◌≡◌, min, [], IfOk};
-ghost use Rattle.std.specs.VecDeque.{deque_capacity};
-ghost use Rattle.kinds.specs.declared.refusal.Ending.TheVariants.{End};
-ghost use Rattle.mailbox.specs.Mail.{FirstOut, Put, all_lawful, places, waits};
+ghost use Rattle.std.specs.Prelude.{◌≡◌, min, [], IfOk, Ok};
+ghost use Rattle.mailbox.specs.Mail.{Put, all_lawful, places, waits};
 
 use crate::held::Mailbox;
 use kinds::kind::Kind;
@@ -15,36 +13,13 @@ use std::collections::VecDeque;
 // The most places that a mailbox has.
 const MOST_PLACES: usize = 64;
 
-// A refusal of the mailbox's own.
-fn refusal(reason: Reason, place: usize) -> Refusal
-    ensures { result ≡ record { layer = Layer.Mailbox; reason = reason; place = place } }
-{
-    Refusal {
-        layer: Layer::Mailbox,
-        reason,
-        place,
-    }
-}
-
-// The place of the event that is handed over next.
-const FIRST: usize = 0;
-
-// Takes the first of a queue out of it.
-fn take_first<T>(queue: &mut VecDeque<T>) -> Option<T>
-    ensures out { FirstOut queue.old result queue.new }
-    ensures capacity { deque_capacity queue.new ≡ deque_capacity queue.old }
-{
-    queue.remove(FIRST)
-}
-
 impl<K: Kind> Mailbox<K> {
     // An empty mailbox with so many places, and never with more than 64.
     pub fn new(heap: Global, room: usize) -> Result<Mailbox<K>, AllocError>
         ensures { IfOk result (λ m. (waits m ≡ []) × (places m ≡ min room 64)) }
     {
-        let room = room.min(MOST_PLACES);
-        let queue = VecDeque::with_capacity(heap, room)?;
-        Ok(Mailbox { queue, room })
+        let queue = VecDeque::with_capacity(heap, room.min(MOST_PLACES))?;
+        Ok(Mailbox { queue })
     }
 
     // Puts an event behind the others, or tells why it cannot be put.
@@ -53,12 +28,10 @@ impl<K: Kind> Mailbox<K> {
         ensures room { places self.new ≡ places self.old }
     {
         let place = self.queue.len();
-        let event = match Event::new(K::nothing(), id, values) {
-            Ok(event) => event,
-            Err(reason) => return Err(refusal(reason, place)),
-        };
-        if place >= self.room {
-            return Err(refusal(Reason::NoRoom, place));
+        let refusal = |reason| Layer::Mailbox.refusal(reason, place);
+        let event = Event::new(K::nothing(), id, values).map_err(refusal)?;
+        if place >= self.queue.capacity() {
+            return Err(refusal(Reason::NoRoom));
         }
         self.queue.push_back_reserved(event);
         Ok(())
@@ -68,11 +41,11 @@ impl<K: Kind> Mailbox<K> {
 impl<K: Kind> Source<K> for Mailbox<K> {
     ghost waiting = { λ m. waits m };
 
-    ghost ending = { λ _. End };
+    ghost ending = { λ _. Ok tt };
 
     ghost lawful = { λ m. all_lawful m.queue.items };
 
     fn next(&mut self) -> Result<Option<Event<K::Value>>, Refusal> {
-        Ok(take_first(&mut self.queue))
+        Ok(self.queue.pop_front())
     }
 }

@@ -1,10 +1,10 @@
-use Rattle.std.proofs.Common.{map, drop}
+use Rattle.std.proofs.Common.{◌≡◌, ◌++◌, map, take}
 use Rattle.sources.specs.Sayings.{says}
-use Rattle.day.proofs.Writing.{Left}
+use Rattle.day.specs.Lines.{written}
 use Rattle.day.specs.Listing.{lines_of}
 use Rattle.day.proofs.listing.print_events.Given as goal
 
+-- the lines of the events so far are written
 abbrev pub invariant-loop-event : goal.invariant-loop-event
 invariant-loop-event g l =
-    let shown = g.K.Shown.shown in
-    Left l.initial.page l.page (lines_of shown (map says (drop l.event-index l.events))) (lines_of shown (map says l.events))
+    written l.page ≡ written l.initial.page ++ lines_of g.K.Shown.shown (map says (take l.event-index l.events))
