@@ -1,6 +1,7 @@
 use Rattle.std.proofs.Common.{◌≡◌, ℕ, ◌+◌, false, length, sym, ◌∙◌, subst, arith}
 use Rattle.property.specs.declared.table.Register.{Register}
 use Rattle.paths.specs.Reads.{FirstOf}
+use Rattle.paths.proofs.Minima.{least_two}
 use Rattle.paths.proofs.Registers.{constant_more, variable_more, held}
 use Rattle.paths.proofs.unwritten_read.Goals as goal
 use Rattle.paths.proofs.unwritten_read.Goals.{then-not-g, else-not-g}
@@ -13,7 +14,7 @@ loop-x-preserved c =
     let d : Register = record { constant = false; name = record { from = 0; to = 0 } } in
     elim c.if-not-g.branch [
       | then-not-g w ↦
-          subst (FirstOf ss gs (i + 1)) (sym (w.best-is ∙ w.lesser-best.ensures))
+          subst (FirstOf ss gs (i + 1)) (sym (w.best-is ∙ (w.lesser-best.ensures ∙ least_two c.loop-x.best w.first_read.result)))
           (variable_more ss gs i c.loop-x.best w.first_read.result (held ss gs i d c.loop-x-test.true w.if-not-g.true) c.loop-x.invariant w.first_read.ensures)
       | else-not-g w ↦
           subst (FirstOf ss gs (i + 1)) (sym w.best-is) (constant_more ss gs i c.loop-x.best d c.loop-x-test.true w.if-not-g.false c.loop-x.invariant)
