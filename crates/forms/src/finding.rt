@@ -3,10 +3,11 @@ ghost use Rattle.std.specs.Prelude.{◌≡◌, ℕ, ◌<◌, ◌≤◌, ◌⊎�
 ghost use Rattle.forms.specs.Forms.{Before};
 
 // A fault that was found: its number and its place.
-#[derive(Clone, Copy, PartialEq, Eq, Debug)]
+// Findings are ordered by their places, and at one place by their numbers.
+#[derive(Clone, Copy, PartialEq, Eq, PartialOrd, Ord, Debug)]
 pub struct Finding {
-    pub number: u8,
     pub place: usize,
+    pub number: u8,
 }
 
 impl Finding {
@@ -14,6 +15,6 @@ impl Finding {
     pub fn before(self, other: Finding) -> bool
         ensures { Decides result (Before self.number self.place other.number other.place) }
     {
-        self.place < other.place || self.place == other.place && self.number <= other.number
+        self <= other
     }
 }

@@ -1,7 +1,8 @@
 -- Labels: a number from 1 to 16, then that many letters, digits or hyphens. The case of letters does not count.
-use Rattle.std.specs.Prelude.{◌≡◌, ℕ, suc, ◌+◌, ◌<◌, ◌≤◌, Bool, true, false, cond, ◌&&◌, ◌||◌, ◌⊎◌, List, [], ◌∷◌, ◌++◌, map, length, take, drop, replicate, Ok, Err, Result, ◌==◌, nat_lt}
+use Rattle.std.specs.Prelude.{◌≡◌, ℕ, suc, ◌+◌, ◌<◌, ◌≤◌, Bool, true, false, cond, ◌||◌, ◌⊎◌, List, [], ◌∷◌, ◌++◌, map, length, take, drop, replicate, Ok, Err, Result, ◌==◌, nat_lt}
 use Rattle.std.proofs.Common.{arith, length-take, length-append}
 use Rattle.std.proofs.lemmas.List.{length-replicate}
+use Rattle.std.specs.List.{list_all}
 use Rattle.std.specs.Char.{to_ascii_lowercase, is_ascii_alphanumeric}
 use Rattle.kinds.specs.declared.refusal.Fault.{Fault}
 use Rattle.kinds.specs.declared.label.Label.{Label}
@@ -14,8 +15,7 @@ label_byte b = is_ascii_alphanumeric b || b == 45
 
 -- Every byte may stand in a label.
 abbrev pub all_label : List ℕ → Bool
-all_label [] = true
-all_label (b ∷ bytes) = label_byte b && all_label bytes
+all_label = list_all label_byte
 
 -- Sixteen bytes: a text, and zeros behind it.
 abbrev pub padded : List ℕ → List ℕ

@@ -1,5 +1,5 @@
 -- What each refusal is called: the name of every layer and the number of every reason.
-use Rattle.std.specs.Prelude.{ℕ, List, codes}
+use Rattle.std.specs.Prelude.{ℕ, List, ◌∷◌, ◌++◌, codes, decimal, Result}
 use Rattle.kinds.specs.declared.refusal.Layer.{Layer}
 use Rattle.kinds.specs.declared.refusal.Layer.TheVariants.{Number, Value, Journal, Text, Watch, Mailbox}
 use Rattle.kinds.specs.declared.refusal.Reason.{Reason}
@@ -63,6 +63,14 @@ number_of (of_watch r) = watch_number r  -- what only a watch refuses
 -- A fault at a place.
 abbrev pub placed : Fault → ℕ → Refusal
 placed f p = record { layer = f.layer; reason = f.reason; place = p }
+
+-- How a list of events ends: at its end, or with a refusal.
+abbrev pub Ending : Type 0
+Ending = Result (Unit {0}) Refusal
+
+-- A refusal in words: its layer, its number and its place.
+abbrev pub refusal_words : Refusal → List ℕ
+refusal_words f = name_of f.layer ++ 32 ∷ (decimal (number_of f.reason) ++ 32 ∷ decimal f.place)
 
 -- The bytes end inside a number.
 abbrev pub number_cut : Fault

@@ -1,20 +1,11 @@
 -- The bytes of labels. Assumes nothing.
-use Rattle.std.specs.Prelude.{◌≡◌, ℕ, zero, suc, ◌+◌, ◌<◌, ◌≤◌, true, false, ◌||◌, ◌⊎◌, List, [], ◌∷◌, length, take, drop, Ok, Err, ◌==◌, ◌≢◌, nat_lt, slice_index, refl}
-use Rattle.std.proofs.Common.{ap, ⊎_elim, arith}
-use Rattle.std.proofs.lemmas.Bool.{or_left, or_right, or_from, eq-eqb, ne_eqb, lt-ltb, le-ltb, and_from, and_left, and_right}
+use Rattle.std.specs.Prelude.{◌≡◌, ℕ, ◌+◌, ◌<◌, ◌≤◌, true, false, ◌||◌, ◌⊎◌, List, length, take, drop, Ok, Err, ◌==◌, ◌≢◌, nat_lt}
+use Rattle.std.proofs.Common.{ap, ⊎_elim}
+use Rattle.std.proofs.lemmas.Bool.{or_left, or_right, or_from, eq-eqb, ne_eqb, lt-ltb, le-ltb}
 use Rattle.kinds.specs.declared.refusal.Fault.{Fault}
 use Rattle.kinds.specs.Refusals.{value_cut, value_bad}
 use Rattle.kinds.specs.Numbers.{number_read}
-use Rattle.kinds.specs.Labels.{label_byte, all_label, label_of, label_read, sized_read, text_read}
-
-pub all_from : (xs : List ℕ) → ((k : ℕ) → k < length xs → label_byte (slice_index xs k) ≡ true) → all_label xs ≡ true
-all_from [] h = refl
-all_from (x ∷ xs) h = and_from (label_byte x) (all_label xs) (h 0 (omega arith)) (all_from xs (λ k lt. h (suc k) (omega arith)))
-
-pub none_from : (xs : List ℕ) (k : ℕ) → k < length xs → label_byte (slice_index xs k) ≡ false → all_label xs ≡ false
-none_from [] k lt e = absurd (omega arith)
-none_from (x ∷ xs) zero lt e = and_left (label_byte x) (all_label xs) e
-none_from (x ∷ xs) (suc k) lt e = and_right (label_byte x) (all_label xs) (none_from xs k (omega arith) e)
+use Rattle.kinds.specs.Labels.{all_label, label_of, label_read, sized_read, text_read}
 
 -- The steps of a label's reading.
 pub read_fault : (bytes : List ℕ) (f : Fault) → Err f ≡ number_read bytes → Err f ≡ label_read bytes

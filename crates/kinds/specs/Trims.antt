@@ -1,10 +1,10 @@
 -- Labels and the zeros behind their text. Assumes nothing.
-use Rattle.std.specs.Prelude.{◌≡◌, ℕ, suc, ◌+◌, ◌-◌, ◌<◌, ◌≤◌, List, [], ◌∷◌, ◌++◌, map, length, take, drop, replicate, ◌==◌, ◌≢◌, slice_index, slice_index_or, refl}
+use Rattle.std.specs.Prelude.{◌≡◌, ℕ, zero, suc, ◌+◌, ◌-◌, ◌<◌, ◌≤◌, List, [], ◌∷◌, ◌++◌, map, length, take, drop, replicate, ◌==◌, ◌≢◌, slice_index, refl}
 use Rattle.std.proofs.Common.{sym, ap, ◌∙◌, ⊎_elim, arith}
 use mathlib.Core.HLevel.{is_prop→PathP}
 use Rattle.std.proofs.Math.Nat.{ℕ_set}
 use Rattle.std.proofs.Math.Seq.{take-append-add}
-use Rattle.std.proofs.lemmas.List.{drop-replicate, take-replicate, length-append, length-map, length-replicate, take_more}
+use Rattle.std.proofs.lemmas.List.{drop-replicate, take-replicate, length-append, length-map, length-replicate}
 use Rattle.std.proofs.lemmas.Bool.{cases_Bool, ne_eqb, eqb-true, eqb-false}
 use Rattle.std.proofs.lemmas.Bool.Decides.{nat_tests}
 use Rattle.std.specs.Char.{to_ascii_lowercase}
@@ -83,27 +83,20 @@ map_none (x ∷ xs) e = let z : ◌≡◌ {A = ℕ} 0 1 = cc in absurd (omega ar
 pub label_lone : (l : Label) → label_class l ≡ [] → l ≡ no_label
 label_lone l e = label_same l no_label (trim_one l.text no_label.text l.sixteen (map_none (trimmed l.text) e))
 
--- One byte more at the end.
-kept_some : (x b : ℕ) (xs : List ℕ) → kept x (xs ++ b ∷ []) ≡ x ∷ (xs ++ b ∷ [])
-kept_some x b [] = refl
-kept_some x b (y ∷ xs) = refl
+-- Where every byte is a zero nothing is left.
+pub trim_none : (xs : List ℕ) → ((k : ℕ) → k < length xs → slice_index xs k ≡ 0) → trimmed xs ≡ []
+trim_none [] zeros = refl
+trim_none (x ∷ xs) zeros =
+    let first : x ≡ 0 = zeros 0 (omega arith) in
+    ap (kept x) (trim_none xs (λ k l. zeros (suc k) (omega arith))) ∙ rw first refl
 
-trim_zero : (xs : List ℕ) → trimmed (xs ++ 0 ∷ []) ≡ trimmed xs
-trim_zero [] = refl
-trim_zero (x ∷ xs) = ap (kept x) (trim_zero xs)
-
-trim_last : (b : ℕ) (xs : List ℕ) → (b ≢ 0) → trimmed (xs ++ b ∷ []) ≡ xs ++ b ∷ []
-trim_last b [] some = rw (ne_eqb b 0 some)
-trim_last b (x ∷ xs) some = ap (kept x) (trim_last b xs some) ∙ kept_some x b xs
-
-module _ (xs : List ℕ) (n : ℕ) (pos : 0 < n) (within : n ≤ length xs) where
-  front : take n xs ≡ take (n - 1) xs ++ slice_index xs (n - 1) ∷ []
-  front = let e : n ≡ n - 1 + 1 = omega arith in ap (λ k. take k xs) e ∙ take_more xs (n - 1) 0 (omega arith)
-
-  -- a zero at the end goes
-  pub front_zero : slice_index_or xs (n - 1) 0 ≡ 0 → trimmed (take n xs) ≡ trimmed (take (n - 1) xs)
-  front_zero z = ap trimmed front ∙ ap (λ b. trimmed (take (n - 1) xs ++ b ∷ [])) z ∙ trim_zero (take (n - 1) xs)
-
-  -- any other byte stays
-  pub front_last : (slice_index xs (n - 1) ≢ 0) → trimmed (take n xs) ≡ take n xs
-  front_last some = ap trimmed front ∙ trim_last (slice_index xs (n - 1)) (take (n - 1) xs) some ∙ sym front
+-- Up to the last byte that is no zero all is left.
+pub trim_last : (xs : List ℕ) (i : ℕ) → i < length xs → (slice_index xs i ≢ 0) → ((k : ℕ) → i < k → k < length xs → slice_index xs k ≡ 0) → take (suc i) xs ≡ trimmed xs
+trim_last [] i l some zeros = absurd (omega arith)
+trim_last (x ∷ xs) zero l some zeros =
+    let none = trim_none xs (λ k l. zeros (suc k) (omega arith) (omega arith)) in
+    sym (ap (kept x) none ∙ rw (ne_eqb x 0 some) refl)
+trim_last (x ∷ []) (suc i) l some zeros = absurd (omega arith)
+trim_last (x ∷ y ∷ xs) (suc i) l some zeros =
+    let rest : y ∷ take i xs ≡ trimmed (y ∷ xs) = trim_last (y ∷ xs) i (omega arith) some (λ k a b. zeros (suc k) (omega arith) (omega arith)) in
+    ap (kept x) rest

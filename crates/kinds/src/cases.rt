@@ -2,9 +2,8 @@
 ghost use Rattle.kinds.specs.Cases.{LabelCases, NumberCases};
 
 // What some bytes are read as.
-pub fn worked_readings_hold() -> u8
+#[tactic(auto, unfolding(crate::specs::Numbers::groups_read, crate::specs::Numbers::form, crate::specs::Numbers::encode, crate::specs::Labels::label_read))]
+pub fn worked_readings_hold()
     ensures numbers { NumberCases }
     ensures labels { LabelCases }
-{
-    0
-}
+{}

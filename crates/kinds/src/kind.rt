@@ -17,11 +17,9 @@ pub trait Kind {
     // The most bytes that one value takes.
     const LONGEST: usize;
 
-    // NUMBER, as clauses speak of it.
-    ghost code: { ℕ };
+    ghost NUMBER: { ℕ };
 
-    // LONGEST, as clauses speak of it.
-    ghost longest: { ℕ };
+    ghost LONGEST: { ℕ };
 
     // The class of a value: values of one class are the same.
     ghost class: { Self.Value → List ℕ };
@@ -43,15 +41,7 @@ pub trait Kind {
     // Reads the value at the front of some bytes, and tells how many bytes it takes.
     fn read(bytes: &[u8]) -> Result<(Self::Value, usize), Fault>
         ensures value { result ≡ reads bytes.now }
-        ensures within { Reading longest bytes.now result };
-
-    // NUMBER, with a contract, which a trait's constant cannot have.
-    fn code() -> u8
-        ensures { result ≡ code };
-
-    // LONGEST, with a contract.
-    fn longest_form() -> usize
-        ensures { result ≡ longest };
+        ensures within { Reading LONGEST bytes.now result };
 
     // Nothing has the empty class.
     ghost empty: { class nothing ≡ [] };
@@ -63,10 +53,10 @@ pub trait Kind {
     ghost unread: { (bytes : List ℕ) (k : ℕ) → reads bytes ≢ Ok (nothing, k) };
 
     // A reading takes at least one byte, and no more than the longest form and the bytes have; it refuses with 1, 2 or 6.
-    ghost bounded: { (bytes : List ℕ) → Reading longest bytes (reads bytes) };
+    ghost bounded: { (bytes : List ℕ) → Reading LONGEST bytes (reads bytes) };
 
     // The longest form is no longer than a journal.
-    ghost modest: { longest ≤ 65536 };
+    ghost modest: { LONGEST ≤ 65536 };
 
     // A handful of values has a place in memory.
     ghost small: { (size (layout Self.Value.row) ≤ 2 ^ 32) × (align (layout Self.Value.row) ≤ 2 ^ 32) };
@@ -74,7 +64,7 @@ pub trait Kind {
 
 // The most bytes that a record takes: three of an id, one of a count, and five values.
 pub fn record_bound<K: Kind>() -> usize
-    ensures { result ≡ 4 + 5 * K.Kind.longest }
+    ensures { result ≡ 4 + 5 * K.Kind.LONGEST }
 {
-    4 + 5 * K::longest_form()
+    4 + 5 * K::LONGEST
 }

@@ -1,7 +1,6 @@
 // Kind 2, labels: a number from 1 to 16, then that many letters, digits or hyphens; the case of letters does not count.
 ghost use Rattle.std.specs.Prelude.{◌≡◌, ℕ, ◌≤◌, true, length, Decides, Result, ◌==◌};
-ghost use Rattle.std.specs.Char.{to_ascii_lowercase};
-ghost use Rattle.kinds.specs.Labels.{Labelled, all_label, label_byte, label_class, label_of, label_read, no_label, spelling};
+ghost use Rattle.kinds.specs.Labels.{Labelled, all_label, label_class, label_of, label_read, no_label, spelling};
 ghost use Rattle.kinds.specs.Readings.{Reading};
 ghost use Rattle.kinds.specs.declared.label.Label.{Label};
 ghost use Rattle.kinds.specs.declared.refusal.Fault.{Fault};
@@ -24,23 +23,11 @@ const BAD: Fault = Fault {
     reason: Reason::BadLabel,
 };
 
-// Whether a byte may stand in a label.
-fn is_label_byte(b: u8) -> bool
-    ensures { result ≡ label_byte b }
-{
-    b.is_ascii_alphanumeric() || b == b'-'
-}
-
 // Whether every byte may stand in a label.
 fn are_label_bytes(text: &[u8]) -> bool
     ensures { result ≡ all_label text.now }
 {
-    for b in text {
-        if !is_label_byte(*b) {
-            return false;
-        }
-    }
-    true
+    text.iter().all(|b| b.is_ascii_alphanumeric() || *b == b'-')
 }
 
 // The label that a short text spells.
@@ -53,23 +40,12 @@ fn spell(text: &[u8]) -> Label
     Label { text: label }
 }
 
-// A byte, a capital letter as its small one.
-fn folded(b: u8) -> u8
-    ensures { result ≡ to_ascii_lowercase b }
-{
-    b.to_ascii_lowercase()
-}
-
 // Whether two labels differ at most in the case of letters.
+#[tactic(auto, using(crate::specs::Trims::class_from, crate::specs::Trims::class_to))]
 fn same_label(a: &Label, b: &Label) -> bool
     ensures { Decides result (label_class a.now ≡ label_class b.now) }
 {
-    for (i, x) in a.text.iter().enumerate() {
-        if folded(*x) != folded(b.text[i]) {
-            return false;
-        }
-    }
-    true
+    a.text.eq_ignore_ascii_case(&b.text)
 }
 
 // Reads a length and then a text of that length.
@@ -82,10 +58,9 @@ fn read_text(bytes: &[u8]) -> Result<(Label, usize), Fault>
     }
     let length = length as usize;
     let rest = &bytes[count..];
-    if rest.len() < length {
+    let Some(text) = rest.get(..length) else {
         return Err(CUT);
-    }
-    let text = &rest[0..length];
+    };
     if !are_label_bytes(text) {
         return Err(BAD);
     }
@@ -114,11 +89,10 @@ impl Label {
     pub fn text(&self) -> &[u8]
         ensures { result.now ≡ spelling self.now }
     {
-        let mut end = 16;
-        while end > 0 && is_padding(self.text[end - 1]) {
-            end -= 1;
+        match self.text.iter().rposition(|b| !is_padding(*b)) {
+            Some(last) => &self.text[..=last],
+            None => &[],
         }
-        &self.text[0..end]
     }
 }
 
@@ -132,9 +106,9 @@ impl Kind for Labels {
 
     const LONGEST: usize = 17;
 
-    ghost code = { 2 };
+    ghost NUMBER = { 2 };
 
-    ghost longest = { 17 };
+    ghost LONGEST = { 17 };
 
     ghost class = { label_class };
 
@@ -164,13 +138,5 @@ impl Kind for Labels {
 
     fn read(bytes: &[u8]) -> Result<(Label, usize), Fault> {
         read_label(bytes)
-    }
-
-    fn code() -> u8 {
-        Self::NUMBER
-    }
-
-    fn longest_form() -> usize {
-        Self::LONGEST
     }
 }

@@ -18,9 +18,9 @@ impl Kind for Numbers {
 
     const LONGEST: usize = 9;
 
-    ghost code = { 1 };
+    ghost NUMBER = { 1 };
 
-    ghost longest = { 9 };
+    ghost LONGEST = { 9 };
 
     ghost class = { number_class };
 
@@ -51,13 +51,5 @@ impl Kind for Numbers {
     fn read(bytes: &[u8]) -> Result<(Option<u64>, usize), Fault> {
         let (n, count) = read_number(bytes)?;
         Ok((Some(n), count))
-    }
-
-    fn code() -> u8 {
-        Self::NUMBER
-    }
-
-    fn longest_form() -> usize {
-        Self::LONGEST
     }
 }

@@ -1,7 +1,9 @@
 // The phases of a watch.
 
-ghost use Rattle.std.specs.Prelude.{◌≡◌};
+ghost use Rattle.std.specs.Prelude.{◌≡◌, Some};
 ghost use Rattle.kinds.specs.Phases.{phase_name};
+
+use std::fmt;
 
 // Phase and call together decide what a watch answers.
 #[derive(Clone, Copy, PartialEq, Eq, Debug)]
@@ -33,5 +35,13 @@ impl Phase {
             Phase::Full => "full",
             Phase::Kept => "kept",
         }
+    }
+}
+
+impl fmt::Display for Phase {
+    ghost output = { λ p. Some (phase_name p) };
+
+    fn fmt<W: fmt::Write>(&self, f: &mut fmt::Formatter<W>) -> fmt::Result {
+        f.write_str(self.name())
     }
 }

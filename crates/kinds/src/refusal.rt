@@ -1,9 +1,10 @@
 // Refusals: which layer found a fault, what it is, and where.
-ghost use Rattle.std.specs.Prelude.{◌≡◌};
-ghost use Rattle.kinds.specs.Refusals.{name_of, number_of, placed};
+ghost use Rattle.std.specs.Prelude.{◌≡◌, Some, decimal};
+ghost use Rattle.kinds.specs.Refusals.{name_of, number_of, placed, refusal_words};
 
 use crate::text_reason::TextReason;
 use crate::watch_reason::WatchReason;
+use std::fmt;
 
 // The layer that found the fault.
 #[derive(Clone, Copy, PartialEq, Eq, Debug)]
@@ -56,13 +57,6 @@ pub struct Refusal {
     pub place: usize,
 }
 
-// How a list of events ends: at its end, or with a refusal.
-#[derive(Clone, Copy, PartialEq, Eq, Debug)]
-pub enum Ending {
-    End,
-    Refused(Refusal),
-}
-
 impl Layer {
     // The layer's name, as it is printed.
     pub fn name(self) -> &'static str
@@ -76,6 +70,25 @@ impl Layer {
             Layer::Watch => "watch",
             Layer::Mailbox => "mailbox",
         }
+    }
+
+    // The refusal of this layer for a reason at a place.
+    pub fn refusal(self, reason: Reason, place: usize) -> Refusal
+        ensures { result ≡ record { layer = self; reason = reason; place = place } }
+    {
+        Refusal {
+            layer: self,
+            reason,
+            place,
+        }
+    }
+}
+
+impl fmt::Display for Layer {
+    ghost output = { λ l. Some (name_of l) };
+
+    fn fmt<W: fmt::Write>(&self, f: &mut fmt::Formatter<W>) -> fmt::Result {
+        f.write_str(self.name())
     }
 }
 
@@ -94,8 +107,16 @@ impl Reason {
             Reason::TooLong => 7,
             Reason::NoRoom => 50,
             Reason::Text(r) => r.number(),
-            Reason::Watch(reason) => reason.number(),
+            Reason::Watch(r) => r.number(),
         }
+    }
+}
+
+impl fmt::Display for Reason {
+    ghost output = { λ r. Some (decimal (number_of r)) };
+
+    fn fmt<W: fmt::Write>(&self, f: &mut fmt::Formatter<W>) -> fmt::Result {
+        write!(f, "{}", self.number())
     }
 }
 
@@ -104,10 +125,14 @@ impl Fault {
     pub fn at(self, place: usize) -> Refusal
         ensures { result ≡ placed self place }
     {
-        Refusal {
-            layer: self.layer,
-            reason: self.reason,
-            place,
-        }
+        self.layer.refusal(self.reason, place)
+    }
+}
+
+impl fmt::Display for Refusal {
+    ghost output = { λ f. Some (refusal_words f) };
+
+    fn fmt<W: fmt::Write>(&self, f: &mut fmt::Formatter<W>) -> fmt::Result {
+        write!(f, "{} {} {}", self.layer, self.reason, self.place)
     }
 }

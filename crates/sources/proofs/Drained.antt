@@ -1,27 +1,15 @@
 -- What was taken of a source, and what waits. Assumes nothing.
-use Rattle.std.proofs.Common.{◌≡◌, suc, List, [], ◌∷◌, ◌++◌, map, length, drop, Some, Ok, Err, Option, Result, sym, ap, ◌∙◌, subst, arith, MatchResult}
-use Rattle.std.proofs.lemmas.List.{append_assoc, drop_at, length-append, length-map, map-append}
-use Rattle.kinds.specs.declared.refusal.Ending.{Ending}
+use Rattle.std.proofs.Common.{◌≡◌, suc, List, [], ◌∷◌, ◌++◌, map, length, drop, Err, Result, sym, ap, ◌∙◌, subst, arith, MatchResult}
+use Rattle.std.proofs.lemmas.List.{append_assoc, drop_at, length-append, length-map}
 use Rattle.sources.specs.Events.{Happening}
 use Rattle.sources.specs.Sayings.{says}
-use Rattle.sources.specs.Sources.{Next}
 use Rattle.sources.specs.declared.event.Event.{Event}
 
 -- What holds of a refusal holds of a result that is one.
 pub by_err : {T E : Type 0} (P : T → Type 0) (Q : E → Type 0) (r : Result T E) (d : E) → r ≡ Err d → Q d → MatchResult r P Q
 by_err P Q r d e q = subst (λ x. MatchResult x P Q) (sym e) q
 
--- What `next` says where it hands over an event.
-pub next_some : {V : Type 0} (hs : List (Happening V)) (n : Ending) (o : Option (Event V)) (hs' : List (Happening V)) (n' : Ending) (e : Event V) → o ≡ Some e → Next hs n (Ok o) hs' n' → (hs ≡ says e ∷ hs') × (n' ≡ n)
-next_some hs n o hs' n' e q asked = subst (λ x. Next hs n (Ok x) hs' n') q asked
-
 module _ {V : Type 0} (es : List (Event V)) (e : Event V) (ws ws' all : List (Happening V)) (so_far : map says es ++ ws ≡ all) (first : ws ≡ says e ∷ ws') where
-  -- one event more was taken
-  pub taken_more : (es' : List (Event V)) → es' ≡ es ++ e ∷ [] → map says es' ++ ws' ≡ all
-  taken_more es' q =
-      ap (λ xs. map says xs ++ ws') q ∙ ap (λ xs. xs ++ ws') (map-append says es (e ∷ [])) ∙ append_assoc (map says es) (says e ∷ []) ws'
-      ∙ ap (λ xs. map says es ++ xs) (sym first) ∙ so_far
-
   -- one event more was lost
   pub lost_one : ws' ≡ drop (suc (length es)) all
   lost_one =

@@ -2,8 +2,7 @@
 use Rattle.std.proofs.Common.{◌≡◌, ℕ, zero, suc, ◌+◌, ◌*◌, ◌^◌, ◌<◌, ◌≤◌, Bool, true, false, cond, ltb, ◌⊎◌, List, [], ◌∷◌, length, drop, Ok, Err, Result, sym, refl, ap, ◌∙◌, subst, ap₂, inl, inr, le_trans, mul-le-mul_right, suc-mul, arith, lit≤}
 use Rattle.std.proofs.lemmas.Bool.{le-ltb, lt-ltb, ltb-true, ltb-false}
 use Rattle.kinds.specs.Groups.{short_number, within}
-use Rattle.kinds.specs.declared.refusal.Ending.{Ending}
-use Rattle.kinds.specs.declared.refusal.Ending.TheVariants.{Refused}
+use Rattle.kinds.specs.Refusals.{Ending}
 use Rattle.kinds.specs.declared.refusal.Fault.{Fault}
 use Rattle.kinds.specs.declared.refusal.Reason.TheVariants.{WildId, TooManyValues}
 use Rattle.kinds.specs.declared.refusal.Refusal.{Refusal}
@@ -139,7 +138,7 @@ module _ {V : Type 0} (reads : List ℕ → Result (V × ℕ) Fault) (bytes : Li
   one_account (at_end p over) gs m (onto p' h q hs n under s rest) = absurd (omega arith)
   one_account (stopped p f under bad) gs m (at_end p' over) = absurd (omega arith)
   one_account (stopped p f under bad) gs m (stopped p' g under' bad') =
-      (refl, ap Refused (err_same {A = Happening V × ℕ} g f (sym (refused p bad') ∙ refused p bad)))
+      (refl, ap Err (err_same {A = Happening V × ℕ} g f (sym (refused p bad') ∙ refused p bad)))
   one_account (stopped p f under bad) gs m (onto p' h q hs n under' s rest) = absurd (ok_err _ _ _ (accepted p h q s) (refused p bad))
   one_account (onto p h q hs n under s rest) gs m (at_end p' over) = absurd (omega arith)
   one_account (onto p h q hs n under s rest) gs m (stopped p' f under' bad) = absurd (ok_err _ _ _ (accepted p h q s) (refused p bad))

@@ -2,7 +2,6 @@
 use Rattle.std.proofs.Common.{◌≡◌, ℕ, zero, suc, ◌+◌, ◌-◌, ◌<◌, ◌≤◌, List, [], ◌∷◌, length, drop, Some, None, Ok, Err, Result, sym, refl, ap, ◌∙◌, subst, inl, inr, arith}
 use Rattle.std.proofs.lemmas.List.{drop_all, drop-drop, drop_more}
 use Rattle.std.proofs.lemmas.Bool.{cases_lt}
-use Rattle.kinds.specs.declared.refusal.Ending.TheVariants.{End, Refused}
 use Rattle.kinds.specs.declared.refusal.Fault.{Fault}
 use Rattle.kinds.specs.declared.refusal.Refusal.{Refusal}
 use Rattle.kinds.specs.Readings.{Reading}
@@ -24,7 +23,7 @@ module _ {V : Type 0} (reads : List ℕ → Result (V × ℕ) Fault) (bytes : Li
   walk_skip (b ∷ left) p zero = let e : p ≡ p + 0 = omega arith in ap (λ k. walk reads bytes k 0 (b ∷ left)) e
   walk_skip (b ∷ left) p (suc s) = let e : p + 1 + s ≡ p + suc s = omega arith in walk_skip left (p + 1) s ∙ ap (λ k. walk reads bytes k 0 (drop s left)) e
 
-  pub means_end : (p : ℕ) → length bytes ≤ p → means reads bytes p ≡ record { waits = []; ends = End }
+  pub means_end : (p : ℕ) → length bytes ≤ p → means reads bytes p ≡ record { waits = []; ends = Ok tt }
   unfolding means walk
   means_end p h = ap (walk reads bytes p 0) (drop_all p bytes h)
 
@@ -32,7 +31,7 @@ module _ {V : Type 0} (reads : List ℕ → Result (V × ℕ) Fault) (bytes : Li
   unfolding means walk
   step p h = ap (walk reads bytes p 0) (drop_more bytes p 0 h)
 
-  pub means_refused : (p : ℕ) (f : Refusal) → p < length bytes → record_at reads bytes p ≡ Err f → means reads bytes p ≡ record { waits = []; ends = Refused f }
+  pub means_refused : (p : ℕ) (f : Refusal) → p < length bytes → record_at reads bytes p ≡ Err f → means reads bytes p ≡ record { waits = []; ends = Err f }
   means_refused p f h e = step p h ∙ ap (λ r. onward r (λ q. walk reads bytes (p + 1) (q - (p + 1)) (drop (p + 1) bytes))) e
 
   rejoined : (p q : ℕ) → p < q → walk reads bytes (p + 1) (q - (p + 1)) (drop (p + 1) bytes) ≡ means reads bytes q

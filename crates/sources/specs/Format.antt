@@ -1,7 +1,6 @@
 -- What the bytes of a journal say, read front to back.
 use Rattle.std.specs.Prelude.{ℕ, zero, suc, ◌+◌, ◌-◌, cond, List, [], ◌∷◌, drop, Ok, Err, Result, nat_lt}
-use Rattle.kinds.specs.declared.refusal.Ending.{Ending}
-use Rattle.kinds.specs.declared.refusal.Ending.TheVariants.{End, Refused}
+use Rattle.kinds.specs.Refusals.{Ending}
 use Rattle.kinds.specs.declared.refusal.Fault.{Fault}
 use Rattle.kinds.specs.declared.refusal.Layer.TheVariants.{Journal}
 use Rattle.kinds.specs.declared.refusal.Reason.{Reason}
@@ -59,12 +58,12 @@ first_then h m = record { waits = h ∷ m.waits; ends = m.ends }
 -- A record that is accepted comes first, and what stands after it follows; one that is refused is the ending.
 abbrev pub onward : {V : Type 0} → Result (Happening V × ℕ) Refusal → (ℕ → Meaning V) → Meaning V
 onward (Ok t) rest = first_then t.0 (rest t.1)
-onward (Err f) rest = record { waits = []; ends = Refused f }
+onward (Err f) rest = record { waits = []; ends = Err f }
 
 module _ {V : Type 0} (reads : List ℕ → Result (V × ℕ) Fault) (bytes : List ℕ) where
   -- Over the bytes from p on, of which the first `skip` belong to a record that was taken.
   unfoldable pub walk : ℕ → ℕ → List ℕ → Meaning V
-  walk p skip [] = record { waits = []; ends = End }
+  walk p skip [] = record { waits = []; ends = Ok tt }
   walk p zero (b ∷ left) = onward (record_at reads bytes p) (λ q. walk (p + 1) (q - (p + 1)) left)
   walk p (suc skip) (b ∷ left) = walk (p + 1) skip left
 

@@ -1,7 +1,6 @@
 -- A journal as a relation between its bytes and the events that they record.
 use Rattle.std.specs.Prelude.{◌≡◌, ℕ, ◌+◌, ◌*◌, ◌<◌, ◌≤◌, List, [], ◌∷◌, length, Ok, Err, Result}
-use Rattle.kinds.specs.declared.refusal.Ending.{Ending}
-use Rattle.kinds.specs.declared.refusal.Ending.TheVariants.{End, Refused}
+use Rattle.kinds.specs.Refusals.{Ending}
 use Rattle.kinds.specs.declared.refusal.Fault.{Fault}
 use Rattle.kinds.specs.declared.refusal.Reason.TheVariants.{WildId, TooManyValues}
 use Rattle.kinds.specs.declared.refusal.Refusal.{Refusal}
@@ -35,8 +34,8 @@ module _ {V : Type 0} (reads : List ℕ → Result (V × ℕ) Fault) (bytes : Li
 
   -- From a place on the bytes record these events and end so: at their end, or at the first record that is refused.
   pub data Records : ℕ → List (Happening V) → Ending → Type 0 where
-    at_end : (p : ℕ) → length bytes ≤ p → Records p [] End
-    stopped : (p : ℕ) (f : Refusal) → p < length bytes → Fails p f → Records p [] (Refused f)
+    at_end : (p : ℕ) → length bytes ≤ p → Records p [] (Ok tt)
+    stopped : (p : ℕ) (f : Refusal) → p < length bytes → Fails p f → Records p [] (Err f)
     onto : (p : ℕ) (h : Happening V) (q : ℕ) (hs : List (Happening V)) (n : Ending) → p < length bytes → Stands p h q → Records q hs n → Records p (h ∷ hs) n
 
   -- These events and this ending are what the bytes record from a place on, and nothing else is.

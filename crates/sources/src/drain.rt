@@ -5,14 +5,14 @@ ghost use Rattle.sources.specs.Sayings.{says};
 use crate::event::Event;
 use crate::source::Source;
 use kinds::kind::Kind;
-use kinds::refusal::Ending;
+use kinds::refusal::Refusal;
 use std::alloc::{AllocError, Global};
 
 // The events of a source, and how they end.
 #[derive(Drop)]
 pub struct Drained<V> {
     pub events: Vec<Event<V>>,
-    pub ending: Ending,
+    pub ending: Result<(), Refusal>,
 }
 
 // Takes every event that waits, in order, and tells the ending; where memory gives out some first events are lost.
@@ -25,23 +25,12 @@ pub fn drain<K: Kind, S: Source<K>>(
     ensures stays { S.Source.ending source.new ≡ S.Source.ending source.old }
 {
     let mut events = Vec::new(heap);
-    loop {
+    let ending = loop {
         match source.next() {
-            Ok(first) => match first {
-                Some(event) => events.push(event)?,
-                None => {
-                    return Ok(Drained {
-                        events,
-                        ending: Ending::End,
-                    });
-                }
-            },
-            Err(refusal) => {
-                return Ok(Drained {
-                    events,
-                    ending: Ending::Refused(refusal),
-                });
-            }
+            Ok(Some(event)) => events.push(event)?,
+            Ok(None) => break Ok(()),
+            Err(refusal) => break Err(refusal),
         }
-    }
+    };
+    Ok(Drained { events, ending })
 }

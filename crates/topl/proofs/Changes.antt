@@ -1,5 +1,5 @@
 -- What one call changes.
-use Rattle.std.proofs.Common.{◌≡◌, ℕ, zero, suc, Bool, true, false, cond, ltb, List, [], ◌∷◌, ◌++◌, length, take, drop, set, Some, None, Option, sym, refl, ap, ◌∙◌, subst, ⊎_elim, append-nil, arith}
+use Rattle.std.proofs.Common.{◌≡◌, ℕ, zero, suc, Bool, true, false, cond, ltb, List, [], ◌∷◌, ◌++◌, length, take, drop, set, Some, None, Ok, Err, Option, sym, refl, ap, ◌∙◌, subst, ⊎_elim, append-nil, arith}
 use Rattle.std.specs.List.{slice_get}
 use Rattle.kinds.specs.declared.phase.Phase.{Phase}
 use Rattle.kinds.specs.declared.phase.Phase.TheVariants.{Blank, Running, Broken, Spilled, Full, Kept}
@@ -7,8 +7,7 @@ use Rattle.kinds.specs.declared.refusal.Reason.{Reason}
 use Rattle.kinds.specs.declared.refusal.Refusal.{Refusal}
 use Rattle.kinds.specs.declared.refusal.Reason.TheVariants.{Watch as of_watch}
 use Rattle.kinds.specs.declared.watch_reason.WatchReason.TheVariants.{NotBegun, IsBroken, IsSpilled, IsFull, IsKept, SmallPage}
-use Rattle.kinds.specs.declared.refusal.Ending.{Ending}
-use Rattle.kinds.specs.declared.refusal.Ending.TheVariants.{End, Refused}
+use Rattle.kinds.specs.Refusals.{Ending}
 use Rattle.topl.specs.Lists.{Class}
 use Rattle.topl.specs.Table.{Event, Table}
 use Rattle.topl.specs.Runs.{closed, closing, settled}
@@ -135,8 +134,8 @@ takes_changes l [] end r s' S i t = record {
 }
   where
     passed : (end : Ending) → r ≡ (l, passed_on end) → Changes l [] r
-    passed End e = nothing_said l [] no_event r refl (λ p x i. let z : ◌≡◌ {A = ℕ} 0 1 = cc in omega arith) e
-    passed (Refused f) e = refused_changes l [] f r e
+    passed (Ok _) e = nothing_said l [] no_event r refl (λ p x i. let z : ◌≡◌ {A = ℕ} 0 1 = cc in omega arith) e
+    passed (Err f) e = refused_changes l [] f r e
 takes_changes l (e ∷ es) end r s' S i t = record {
   changes = feed_changes l e r t.0;
   source = t.1 ∙ ap (λ (b : Bool). cond b (record { waiting = es; ending = end }) (record { waiting = e ∷ es; ending = end })) (ap is_running (sym i));

@@ -2,7 +2,7 @@
 use Rattle.std.proofs.Common.{◌≡◌, ℕ, min, List, [], ◌∷◌, drop, Some, None, Option, sym, refl, ap, ◌∙◌, arith}
 use Rattle.kinds.specs.declared.phase.Phase.{Phase}
 use Rattle.kinds.specs.declared.phase.Phase.TheVariants.{Blank, Running, Broken, Spilled, Full, Kept}
-use Rattle.kinds.specs.declared.refusal.Ending.{Ending}
+use Rattle.kinds.specs.Refusals.{Ending}
 use Rattle.topl.specs.Table.{Event}
 use Rattle.topl.specs.Runs.{World, closing, so_far}
 use Rattle.topl.specs.Deciding.{Ruling, breaks, decides, goes_on, overfills, spills}

@@ -7,7 +7,7 @@ use Rattle.kinds.specs.declared.phase.Phase.TheVariants.{Running, Broken, Spille
 use Rattle.kinds.specs.declared.refusal.Reason.{Reason}
 use Rattle.kinds.specs.declared.refusal.Reason.TheVariants.{Watch as of_watch}
 use Rattle.kinds.specs.declared.watch_reason.WatchReason.TheVariants.{IsSpilled, IsFull}
-use Rattle.kinds.specs.declared.refusal.Ending.{Ending}
+use Rattle.kinds.specs.Refusals.{Ending}
 use Rattle.topl.specs.Lists.{Class, ◌∈◌}
 use Rattle.topl.specs.Table.{Event, Table, error}
 use Rattle.topl.specs.Runs.{Configuration, Run, World, closing, runs}

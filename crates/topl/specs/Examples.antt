@@ -1,11 +1,10 @@
 -- Further worked histories, for clauses of the rules that no worked day shows, and the readings that the rules exclude.
-use Rattle.std.specs.Prelude.{◌≡◌, ℕ, true, List, [], ◌∷◌, ◌++◌, take, drop, replicate, None}
+use Rattle.std.specs.Prelude.{◌≡◌, ℕ, true, List, [], ◌∷◌, ◌++◌, take, drop, replicate, None, Ok, Err}
 use Rattle.kinds.specs.declared.phase.Phase.TheVariants.{Blank, Running, Spilled, Full, Kept}
 use Rattle.kinds.specs.declared.refusal.Layer.TheVariants.{Journal}
 use Rattle.kinds.specs.declared.refusal.Reason.TheVariants.{Cut, WildId, TooManyValues, Watch as of_watch}
 use Rattle.kinds.specs.declared.watch_reason.WatchReason.TheVariants.{NotBegun, BegunAlready, BadCap, OtherConstants, SmallBoard, OtherArity, IsBroken, IsSpilled, IsFull, IsKept, NotBroken, SmallPage}
 use Rattle.kinds.specs.declared.refusal.Refusal.{Refusal}
-use Rattle.kinds.specs.declared.refusal.Ending.TheVariants.{End, Refused}
 use Rattle.topl.specs.Lists.{nothing, every}
 use Rattle.topl.specs.Table.{Event, Any, Write, Same, Differs, call_label, return_label, statement_of, Table, empty_table, start, error, is_lawful}
 use Rattle.topl.specs.Runs.{so_far, closing, ErrorAt}
@@ -57,7 +56,7 @@ midnight = call_of 5 []
 
 -- a source with a fetch of no value, and then a midnight
 abbrev pub odd_source : Source
-odd_source = record { waiting = call_of 3 [] ∷ midnight ∷ []; ending = End }
+odd_source = record { waiting = call_of 3 [] ∷ midnight ∷ []; ending = Ok tt }
 
 -- a refusal of a journal
 abbrev pub cut : Refusal
@@ -65,11 +64,11 @@ cut = record { layer = Journal; reason = Cut; place = 7 }
 
 -- a source with a midnight, which ends in that refusal
 abbrev pub cut_source : Source
-cut_source = record { waiting = midnight ∷ []; ending = Refused cut }
+cut_source = record { waiting = midnight ∷ []; ending = Err cut }
 
 -- a source with the day that breaks Stale
 abbrev pub day_source : Source
-day_source = record { waiting = applied; ending = End }
+day_source = record { waiting = applied; ending = Ok tt }
 
 -- a watch with this ledger, and sources
 abbrev pub with_sources : Ledger → List Source → Moment
@@ -98,22 +97,22 @@ pub record Examples : Type 0 where
   -- 30 by a draw: the event is gone, the ledger is as it was; then the next one, and the end
   pub draw_of_other_arity : Only (made board 16384 (odd_source ∷ []))
       ((to_begin stale [] 64, begun) ∷ (to_draw 0, refused_for OtherArity 0) ∷ (to_draw 0, still_running) ∷ (to_draw 0, no_event) ∷ (to_draw 0, no_event) ∷ (to_draw 1, no_source) ∷ [])
-      (with_sources (turned (begun_over 16384 stale [] 64) Running (so_far (midnight ∷ []))) (record { waiting = []; ending = End } ∷ []))
+      (with_sources (turned (begun_over 16384 stale [] 64) Running (so_far (midnight ∷ []))) (record { waiting = []; ending = Ok tt } ∷ []))
   pub refused_draw_takes_one : Only (made board 16384 (odd_source ∷ []))
       ((to_begin stale [] 64, begun) ∷ (to_draw 0, refused_for OtherArity 0) ∷ [])
-      (with_sources (begun_over 16384 stale [] 64) (record { waiting = midnight ∷ []; ending = End } ∷ []))
+      (with_sources (begun_over 16384 stale [] 64) (record { waiting = midnight ∷ []; ending = Ok tt } ∷ []))
   -- a day that is drawn: it breaks as one that is fed, and the other source is not touched
   pub drawn_day_breaks : Only (made board 16384 (cut_source ∷ day_source ∷ []))
       ((to_begin stale [] 64, begun) ∷ (to_draw 1, still_running) ∷ (to_draw 1, still_running) ∷ (to_draw 1, still_running) ∷ (to_draw 1, found_broken 4) ∷ [])
-      (with_sources stale_end (cut_source ∷ record { waiting = []; ending = End } ∷ []))
+      (with_sources stale_end (cut_source ∷ record { waiting = []; ending = Ok tt } ∷ []))
   -- an event whose draw spills is gone, and not judged
   pub spilled_draw_takes_one : Only (made board 16384 (day_source ∷ []))
       ((to_begin stale [] 1, begun) ∷ (to_draw 0, still_running) ∷ (to_draw 0, refused_for IsSpilled 1) ∷ (to_draw 0, refused_for IsSpilled 1) ∷ [])
-      (with_sources (turned (begun_over 16384 stale [] 1) Spilled (so_far (take 1 applied))) (record { waiting = drop 2 applied; ending = End } ∷ []))
+      (with_sources (turned (begun_over 16384 stale [] 1) Spilled (so_far (take 1 applied))) (record { waiting = drop 2 applied; ending = Ok tt } ∷ []))
   -- a source's refusal is passed on, at each draw
   pub ending_is_passed_on : Only (made board 16384 (cut_source ∷ []))
       ((to_begin stale [] 64, begun) ∷ (to_draw 0, still_running) ∷ (to_draw 0, refused cut) ∷ (to_draw 0, refused cut) ∷ [])
-      (with_sources (turned (begun_over 16384 stale [] 64) Running (so_far (midnight ∷ []))) (record { waiting = []; ending = Refused cut } ∷ []))
+      (with_sources (turned (begun_over 16384 stale [] 64) Running (so_far (midnight ∷ []))) (record { waiting = []; ending = Err cut } ∷ []))
   -- 20: not begun; a draw that the phase refuses leaves its source
   pub not_begun : Only (made board 16384 (cut_source ∷ []))
       ((to_feed midnight, refused_for NotBegun 0) ∷ (to_draw 0, refused_for NotBegun 0) ∷ (to_close, refused_for NotBegun 0) ∷ (ask_verdict, verdict_is Blank 0 None) ∷ [])

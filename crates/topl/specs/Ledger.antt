@@ -1,5 +1,5 @@
 -- The ledger with which a watch is compared: what it keeps, what each call answers and what it leaves.
-use Rattle.std.specs.Prelude.{◌≡◌, ℕ, ◌+◌, ◌*◌, ◌/◌, min, Bool, true, false, cond, not, ◌&&◌, ◌||◌, List, [], ◌∷◌, ◌++◌, length, drop, replicate, Some, None, Option, ◌==◌, nat_lt, slice_set}
+use Rattle.std.specs.Prelude.{◌≡◌, ℕ, ◌+◌, ◌*◌, ◌/◌, min, Bool, true, false, cond, not, ◌&&◌, ◌||◌, List, [], ◌∷◌, ◌++◌, length, drop, replicate, Some, None, Ok, Err, Option, ◌==◌, nat_lt, slice_set}
 use Rattle.kinds.specs.declared.phase.Phase.{Phase}
 use Rattle.kinds.specs.declared.phase.Phase.TheVariants.{Blank, Running, Broken, Spilled, Full, Kept}
 use Rattle.kinds.specs.declared.refusal.Layer.TheVariants.{Watch}
@@ -7,8 +7,7 @@ use Rattle.kinds.specs.declared.refusal.Reason.{Reason}
 use Rattle.kinds.specs.declared.refusal.Reason.TheVariants.{WildId, TooManyValues, Watch as of_watch}
 use Rattle.kinds.specs.declared.watch_reason.WatchReason.TheVariants.{NotBegun, BegunAlready, BadCap, OtherConstants, SmallBoard, OtherArity, IsBroken, IsSpilled, IsFull, IsKept, NotBroken, SmallPage}
 use Rattle.kinds.specs.declared.refusal.Refusal.{Refusal}
-use Rattle.kinds.specs.declared.refusal.Ending.{Ending}
-use Rattle.kinds.specs.declared.refusal.Ending.TheVariants.{End, Refused}
+use Rattle.kinds.specs.Refusals.{Ending}
 use Rattle.topl.specs.Lists.{Class, nothing}
 use Rattle.topl.specs.Table.{Event, calls, most_values, Table, empty_table, register_count, error}
 use Rattle.topl.specs.Runs.{Registers, Configuration, Mode, settled, World, so_far, closing, Reach}
@@ -192,8 +191,8 @@ pub record Source : Type 0 where
 
 -- what a draw from a source with no event answers
 abbrev pub passed_on : Ending → Answer
-passed_on End = no_event
-passed_on (Refused r) = refused r
+passed_on (Ok _) = no_event
+passed_on (Err r) = refused r
 
 -- a draw that the phase allows feeds the first event that waits, which is gone from the source even if it is refused
 abbrev pub Takes : Ledger → List Event → Ending → Ledger × Answer → Source → Type 0

@@ -1,5 +1,5 @@
 // Making events, and asking what they say.
-ghost use Rattle.std.specs.Prelude.{◌≡◌, ◌+◌, ◌/◌, ◌<◌, ◌≤◌, [], ◌∷◌, ◌++◌, slice_index_or};
+ghost use Rattle.std.specs.Prelude.{◌≡◌, ◌+◌, ◌/◌, ◌<◌, ◌≤◌, [], ◌∷◌, ◌++◌, length, slice_index_or};
 ghost use Rattle.sources.specs.Events.{index_at, is_return, most, places};
 ghost use Rattle.sources.specs.Sayings.{Judged, says};
 
@@ -28,9 +28,7 @@ impl<V: Copy> Event<V> {
             return Err(Reason::TooManyValues);
         }
         let mut held = [nothing; 5];
-        for (i, v) in values.iter().enumerate() {
-            held[i] = *v;
-        }
+        held[..values.len()].copy_from_slice(values);
         Ok(Event {
             id,
             count: values.len(),
@@ -41,7 +39,7 @@ impl<V: Copy> Event<V> {
     // The event of an id with no value yet.
     pub(crate) fn bare(nothing: V, id: u32) -> Event<V>
         requires { id ≤ 131071 }
-        ensures { (says result ≡ record { id = id; values = [] }) × (result.count ≡ 0) }
+        ensures { says result ≡ record { id = id; values = [] } }
     {
         Event {
             id,
@@ -52,21 +50,18 @@ impl<V: Copy> Event<V> {
 
     // One value more.
     pub(crate) fn push(&mut self, value: V)
-        requires { self.old.count < most self.old.id }
-        ensures said { says self.new ≡ record { id = self.old.id; values = (says self.old).values ++ (value ∷ []) } }
-        ensures count { self.new.count ≡ self.old.count + 1 }
+        requires { length (says self.old).values < most (says self.old).id }
+        ensures { says self.new ≡ record { id = (says self.old).id; values = (says self.old).values ++ (value ∷ []) } }
     {
-        let n = self.count;
-        self.values[n] = value;
-        self.count = n + 1;
+        self.values[self.count] = value;
+        self.count += 1;
     }
 
     // Twice the method, and one more for a return.
     pub fn id(&self) -> u32
         ensures { result ≡ (says self.now).id }
     {
-        let Event { id, .. } = self;
-        *id
+        self.id
     }
 
     // The method that is called or returns.
@@ -87,41 +82,27 @@ impl<V: Copy> Event<V> {
     pub fn values(&self) -> &[V]
         ensures { result.now ≡ (says self.now).values }
     {
-        let all = &self.values[..];
-        &all[0..self.count]
+        &self.values[..self.count]
     }
 
     // What stands at one of the six places: 0 has the returned value, 1 to 5 the parameters; `nothing` where none was given.
     pub fn place(&self, nothing: V, place: usize) -> V
         ensures { result ≡ slice_index_or (places nothing (says self.now)) place nothing }
     {
-        match index_at(self.is_return(), place) {
-            Some(i) => self.value(nothing, i),
+        match self.index_at(place) {
+            Some(i) => self.values().get(i).copied().unwrap_or(nothing),
             None => nothing,
         }
     }
 
-    // The value given at an index, or `nothing`.
-    fn value(&self, nothing: V, i: usize) -> V
-        ensures { result ≡ slice_index_or (says self.now).values i nothing }
+    // Which value stands at a place: a return has its value at 0, and a call its first at 1.
+    fn index_at(&self, place: usize) -> Option<usize>
+        ensures { result ≡ index_at (is_return (says self.now).id) place }
     {
-        if i < self.count {
-            self.values[i]
+        if self.is_return() {
+            Some(place)
         } else {
-            nothing
+            place.checked_sub(1)
         }
-    }
-}
-
-// Which value stands at a place: a return has its value at 0, and a call its first at 1.
-fn index_at(is_return: bool, place: usize) -> Option<usize>
-    ensures { result ≡ index_at is_return place }
-{
-    if is_return {
-        Some(place)
-    } else if place == 0 {
-        None
-    } else {
-        Some(place - 1)
     }
 }

@@ -4,7 +4,7 @@ ghost use Rattle.kinds.specs.Numbers.{number_read};
 ghost use Rattle.sources.specs.Events.{most};
 ghost use Rattle.sources.specs.Format.{at, event_at, moved, record_at};
 ghost use Rattle.sources.specs.Lawfulness.{means_lawful};
-ghost use Rattle.sources.specs.Opening.{Opened, ahead, head_differs, head_refusal};
+ghost use Rattle.sources.specs.Opening.{Opened, ahead, head_refusal};
 ghost use Rattle.sources.specs.Sources.{Next};
 ghost use Rattle.sources.specs.Steps.{event_told, told};
 
@@ -24,30 +24,16 @@ const MOST_BYTES: usize = 65_536;
 // The version of the format.
 const VERSION: u8 = 1;
 
-// A refusal of the journal's own.
-fn refusal(reason: Reason, place: usize) -> Refusal
-    ensures { result ≡ record { layer = Layer.Journal; reason = reason; place = place } }
-{
-    Refusal {
-        layer: Layer::Journal,
-        reason,
-        place,
-    }
-}
-
 // Moves past what was read at the place; a fault is placed there, and nothing moves.
 fn advance<V: Copy>(place: &mut Place, read: Result<(V, usize), Fault>) -> Result<V, Refusal>
     requires { IfOk read (λ t. place.old.at + t.1 < 2 ^ 64) }
     ensures tells { told result place.new.at ≡ moved place.old.at read }
     ensures moves { MatchResult read (λ t. place.new.at ≡ place.old.at + t.1) (λ _. place.new.at ≡ place.old.at) }
 {
-    match read {
-        Ok((value, count)) => {
-            place.at += count;
-            Ok(value)
-        }
-        Err(fault) => Err(fault.at(place.at)),
-    }
+    let start = place.at;
+    let (value, count) = read.map_err(|fault| fault.at(start))?;
+    place.at += count;
+    Ok(value)
 }
 
 // The number at the place, which then moves past it.
@@ -89,53 +75,39 @@ fn take_event<K: Kind>(
     Ok(event)
 }
 
-// Why a journal cannot be opened under a kind's number, if it cannot.
-fn head_fault(bytes: &[u8], code: u8) -> Option<Refusal>
-    ensures { result ≡ head_refusal code bytes.now }
+// Refuses a journal that cannot be opened under a kind's number.
+fn check_head(bytes: &[u8], number: u8) -> Result<(), Refusal>
+    ensures { MatchResult result (λ _. head_refusal number bytes.now ≡ None) (λ f. head_refusal number bytes.now ≡ Some f) }
 {
     if bytes.len() > MOST_BYTES {
-        return Some(refusal(Reason::TooLong, 0));
+        return Err(Layer::Journal.refusal(Reason::TooLong, 0));
     }
     match bytes {
-        [version, kind, ..] => head_differs(*version, *kind, code),
-        _ => Some(refusal(Reason::Cut, 0)),
-    }
-}
-
-// Why a head's version and kind are not those that are wanted, if they are not.
-fn head_differs(version: u8, kind: u8, code: u8) -> Option<Refusal>
-    ensures { result ≡ head_differs version kind code }
-{
-    if version != VERSION {
-        Some(refusal(Reason::OtherHead, 0))
-    } else if kind != code {
-        Some(refusal(Reason::OtherHead, 1))
-    } else {
-        None
+        [VERSION, kind, ..] if *kind == number => Ok(()),
+        [VERSION, _, ..] => Err(Layer::Journal.refusal(Reason::OtherHead, 1)),
+        [_, _, ..] => Err(Layer::Journal.refusal(Reason::OtherHead, 0)),
+        _ => Err(Layer::Journal.refusal(Reason::Cut, 0)),
     }
 }
 
 impl<'a, K: Kind> Journal<'a, K> {
     // A reader of the bytes that stands at their first record, or why their head is refused.
     pub fn open(bytes: &'a [u8]) -> Result<Journal<'a, K>, Refusal>
-        ensures { MatchResult result (λ j. Opened K.Kind.reads K.Kind.longest K.Kind.code bytes.now j) (λ f. head_refusal K.Kind.code bytes.now ≡ Some f) }
+        ensures { MatchResult result (λ j. Opened K.Kind.reads K.Kind.LONGEST K.Kind.NUMBER bytes.now j) (λ f. head_refusal K.Kind.NUMBER bytes.now ≡ Some f) }
     {
-        match head_fault(bytes, K::code()) {
-            Some(refusal) => Err(refusal),
-            None => Ok(Journal {
-                bytes,
-                place: Place { at: 2 },
-                kind: PhantomData,
-            }),
-        }
+        check_head(bytes, K::NUMBER)?;
+        Ok(Journal {
+            bytes,
+            place: Place { at: 2 },
+            kind: PhantomData,
+        })
     }
 
     // The first byte that is not read yet.
     pub fn place(&self) -> usize
         ensures { result ≡ self.now.place.at }
     {
-        let Place { at } = self.place;
-        at
+        self.place.at
     }
 
     // The record at the reader's place; one that is refused leaves the reader at its first byte.
@@ -153,12 +125,12 @@ impl<'a, K: Kind> Journal<'a, K> {
         };
         let id = take_number(bytes, guard.place)?;
         if id > u64::from(LAST_ID) {
-            return Err(refusal(Reason::WildId, start));
+            return Err(Layer::Journal.refusal(Reason::WildId, start));
         }
         let id = id as u32;
         let count = take_number(bytes, guard.place)?;
         if count > most_values(id) as u64 {
-            return Err(refusal(Reason::TooManyValues, start));
+            return Err(Layer::Journal.refusal(Reason::TooManyValues, start));
         }
         let event = take_event::<K>(bytes, guard.place, id, count as usize)?;
         guard.accept();

@@ -4,13 +4,13 @@ use Rattle.kinds.specs.Readings.{Reading}
 use Rattle.kinds.specs.Meaning.{label_keeps, label_only, labelled}
 use Rattle.kinds.proofs.labels.read_label.Goals as goal
 
-pub returns : goal.returns
-returns c =
+pub returns-clause-meaning : goal.returns-clause-meaning
+returns-clause-meaning c =
     let bs = c.args.bytes.now in
-    let e = c.read_text.ensures in
-    record {
-      value = e;
-      meaning = subst (Labelled bs) (sym e) (labelled bs (λ i. omega (arith, c.type_inv.bytes i)));
-      only = λ s m. label_only bs (λ i. omega (arith, c.type_inv.bytes i)) s m ∙ sym e;
-      within = subst (Reading 17 bs) (sym e) (label_keeps bs);
-    }
+    subst (Labelled bs) (sym c.read_text.ensures) (labelled bs (λ i. omega (arith, c.type_inv.bytes i)))
+
+pub returns-clause-only : goal.returns-clause-only
+returns-clause-only c = λ s m. label_only c.args.bytes.now (λ i. omega (arith, c.type_inv.bytes i)) s m ∙ sym c.read_text.ensures
+
+pub returns-clause-within : goal.returns-clause-within
+returns-clause-within c = let bs = c.args.bytes.now in subst (Reading 17 bs) (sym c.read_text.ensures) (label_keeps bs)

@@ -4,14 +4,14 @@ use Rattle.sources.proofs.Walked.{recorded}
 use Rattle.sources.specs.Opening.{head_refusal}
 use Rattle.sources.proofs.journal.Journal.open.Goals as goal
 
-pub returns-in-None : goal.returns-in-None
-returns-in-None g c =
+pub returns : goal.returns
+returns g c =
     let k = g.K.Kind in
     let bytes = c.args.bytes.now in
     record {
-      head = ap (λ k. head_refusal k bytes) (sym c.code.ensures) ∙ sym c.head_fault.ensures ∙ c.in-None.is;
+      head = ap (λ n. head_refusal n bytes) (sym c.NUMBER.ensures) ∙ c.in_ok-check_head.ensures;
       bytes_are = refl;
       place_is = refl;
-      holds = recorded k.reads k.longest g.met.K.Kind.bounded bytes 2;
-      short = short_records k.reads k.longest g.met.K.Kind.bounded bytes;
+      holds = recorded k.reads k.LONGEST g.met.K.Kind.bounded bytes 2;
+      short = short_records k.reads k.LONGEST g.met.K.Kind.bounded bytes;
     }

@@ -1,4 +1,5 @@
-use Rattle.std.proofs.Common.{◌+◌, Err, ap, ◌∙◌}
+use Rattle.std.proofs.Common.{◌+◌, length, Err, ap, ◌∙◌}
+use Rattle.std.proofs.lemmas.List.{length_push}
 use Rattle.std.proofs.lemmas.Result.{err_from_is_err_and}
 use Rattle.sources.specs.Sayings.{says}
 use Rattle.sources.specs.Steps.{event_told}
@@ -25,9 +26,9 @@ loop-i-preserved g c =
     let h = c.in_ok-take_value.ensures in
     let n = c.push.ensures in (
       h.within,
-      n.count ∙ ap (λ k. k + 1) i.1,
-      ap (λ e. e.id) n.said ∙ i.2,
-      one_read reads bytes _ c.loop-i.place.at c.args.count c.loop-i._i (says c.loop-i.event).values c.loop-i-test.true i.3 c.in_ok-take_value.field-0 c.take_value.new.place.at _ h.tells (ap (λ e. e.values) n.said),
+      ap (λ e. length e.values) n ∙ length_push (says c.loop-i.event).values c.in_ok-take_value.field-0 ∙ ap (λ k. k + 1) i.1,
+      ap (λ e. e.id) n ∙ i.2,
+      one_read reads bytes _ c.loop-i.place.at c.args.count c.loop-i._i (says c.loop-i.event).values c.loop-i-test.true i.3 c.in_ok-take_value.field-0 c.take_value.new.place.at _ h.tells (ap (λ e. e.values) n),
     )
 
 pub returns : goal.returns

@@ -9,6 +9,6 @@ abbrev pub invariant-loop-i : goal.invariant-loop-i
 invariant-loop-i g l =
     let k = g.K.Kind in
     (l.place.at ≤ length l.bytes)
-    × (l.event.count ≡ l._i)
+    × (length (says l.event).values ≡ l._i)
     × (l.event.id ≡ l.id)
     × (values_at k.reads l.bytes l.initial.place.at l.count ≡ prepend (says l.event).values (values_at k.reads l.bytes l.place.at (l.count - l._i)))

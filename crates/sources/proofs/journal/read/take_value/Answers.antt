@@ -8,5 +8,5 @@ returns g c =
     let p = c.args.place.now.at in
     record {
       tells = c.advance.ensures.tells ∙ read_at g.K.Kind.reads bytes p _ c.read.ensures.value;
-      within = stops_within g.K.Kind.longest bytes p c.advance.new.place.at _ c.requires c.read.ensures.within c.advance.ensures.moves;
+      within = stops_within g.K.Kind.LONGEST bytes p c.advance.new.place.at _ c.requires c.read.ensures.within c.advance.ensures.moves;
     }

@@ -9,7 +9,7 @@ use Rattle.sources.proofs.journal.read.JournalSource.next.Goals as goal
 pub returns-then-self : goal.returns-then-self
 returns-then-self g c =
     let s = c.args.self.now in
-    record { hands = next_end g.K.Kind.reads g.K.Kind.longest g.met.K.Kind.bounded s.bytes.now s.place.at c.if-self.true; back = tt; same = refl }
+    record { hands = next_end g.K.Kind.reads g.K.Kind.LONGEST g.met.K.Kind.bounded s.bytes.now s.place.at c.if-self.true; back = tt; same = refl }
 
 pub returns-in_err-record : goal.returns-in_err-record
 returns-in_err-record g c =
@@ -21,7 +21,7 @@ returns-in_err-record g c =
     record {
       hands =
           subst (λ r. Next (m s.bytes.now s.place.at).waits (m s.bytes.now s.place.at).ends r (m t.bytes.now t.place.at).waits (m t.bytes.now t.place.at).ends) (sym (p.1 ∙ ap Err p.2))
-          (next_refused g.K.Kind.reads g.K.Kind.longest g.met.K.Kind.bounded s.bytes.now t.bytes.now s.place.at t.place.at _ c.if-self.false (ap (λ b. b.now) h.same) h.back h.tells);
+          (next_refused g.K.Kind.reads g.K.Kind.LONGEST g.met.K.Kind.bounded s.bytes.now t.bytes.now s.place.at t.place.at _ c.if-self.false (ap (λ b. b.now) h.same) h.back h.tells);
       back = by_err _ _ c.from_residual.result _ p.1 h.back;
       same = ap (λ b. b.now) h.same;
     }
@@ -32,7 +32,7 @@ returns g c =
     let t = c.record.new.self in
     let h = c.in_ok-record.ensures in
     record {
-      hands = next_taken g.K.Kind.reads g.K.Kind.longest g.met.K.Kind.bounded s.bytes.now t.bytes.now s.place.at t.place.at c.in_ok-record.field-0 c.if-self.false (ap (λ b. b.now) h.same) h.tells;
+      hands = next_taken g.K.Kind.reads g.K.Kind.LONGEST g.met.K.Kind.bounded s.bytes.now t.bytes.now s.place.at t.place.at c.in_ok-record.field-0 c.if-self.false (ap (λ b. b.now) h.same) h.tells;
       back = tt;
       same = ap (λ b. b.now) h.same;
     }
