@@ -1,7 +1,7 @@
 -- The window of events: what a shift and a write leave.
-use Rattle.std.proofs.Common.{◌≡◌, ℕ, zero, suc, ◌+◌, ◌-◌, ◌*◌, ◌<◌, ◌≤◌, cond, List, [], ◌∷◌, ◌++◌, length, get_or, take, drop, set, sym, refl, ap, ◌∙◌, subst, ap₂, ⊎_elim, append_assoc, add-one, arith, length-append, length-drop, get_or-append-add}
-use lib.Seq.{set_at, take-paste, paste, paste-suc}
-use Rattle.std.proofs.lemmas.List.{length-take-le, get_or-drop, take_more, drop_more, drop-drop, take_all, get_or_append_left, get_or_push, drop-append-le, take-append-le, take_more_set, length_push, drop_at}
+use Rattle.std.proofs.Common.{◌≡◌, ℕ, zero, suc, ◌+◌, ◌-◌, ◌*◌, ◌<◌, ◌≤◌, cond, List, [], ◌∷◌, ◌++◌, length, get_or, take, drop, set, sym, refl, ap, ◌∙◌, subst, ⊎_elim, add-one, arith, length-drop}
+use lib.Seq.{take-paste, paste, paste-suc}
+use Rattle.std.proofs.lemmas.List.{length-take-le, get_or-drop, drop-drop, take_all, get_or_append_left, get_or_push, drop-append-le, take-append-le, take_more_set, length_push, drop_at}
 use Rattle.std.proofs.lemmas.Bool.{cases_lt}
 use Rattle.topl.specs.Lists.{Class}
 use Rattle.topl.specs.Table as T
@@ -18,32 +18,11 @@ take_few zero xs m l = omega arith
 take_few (suc n) [] m l = omega arith
 take_few (suc n) (x ∷ xs) m l = let h = take_few n xs n (omega arith) in omega arith
 
-module _ {X : Type 0} (xs : List X) (by : ℕ) where
-  -- one value moved
-  pub shift_more : (i : ℕ) (x d : X) → i + by < length xs → x ≡ get_or (take i (drop by xs) ++ drop i xs) (i + by) d →
-      set (take i (drop by xs) ++ drop i xs) i x ≡ take (i + 1) (drop by xs) ++ drop (i + 1) xs
-  shift_more i x d l e =
-      let m = length-drop by xs in
-      let n : length (take i (drop by xs)) ≡ i = length-take-le i (drop by xs) (omega arith) in
-      let same : x ≡ get_or (drop by xs) i d =
-      e ∙ (ap (λ (z : ℕ). get_or (take i (drop by xs) ++ drop i xs) (z + by) d) (sym n) ∙ (get_or-append-add (take i (drop by xs)) (drop i xs) by d
-      ∙ (get_or-drop i xs by d ∙ (ap (λ (z : ℕ). get_or xs z d) (let z : i + by ≡ by + i = omega arith in z) ∙ sym (get_or-drop by xs i d))))) in
-      ap (λ z. set (take i (drop by xs) ++ z) i x) (drop_more xs i d (omega arith)) ∙ (set_at (take i (drop by xs)) (get_or xs i d) (drop (i + 1) xs) x i n
-      ∙ (sym (append_assoc (take i (drop by xs)) (x ∷ []) (drop (i + 1) xs)) ∙ ap (λ z. z ++ drop (i + 1) xs) (ap (λ z. take i (drop by xs) ++ z ∷ []) same ∙ sym (take_more (drop by xs) i d (omega arith)))))
-
-  pub shift_long : (i : ℕ) → i + by ≤ length xs → length (take i (drop by xs) ++ drop i xs) ≡ length xs
-  shift_long i l =
-      let m = length-drop by xs in
-      let n = length-drop i xs in
-      let t : length (take i (drop by xs)) ≡ i = length-take-le i (drop by xs) (omega arith) in
-      let a = length-append (take i (drop by xs)) (drop i xs) in
-      omega arith
-
-  pub shift_done : (i : ℕ) (ys : List X) → by ≤ length xs → i ≡ length xs - by → ys ≡ take i (drop by xs) ++ drop i xs → take (length xs - by) ys ≡ drop by xs
-  shift_done i ys b e h =
-      let d = length-drop by xs in
-      let n : length (take i (drop by xs)) ≡ i = length-take-le i (drop by xs) (omega arith) in
-      ap₂ take (sym e) h ∙ (take-append-le i (take i (drop by xs)) (drop i xs) (omega arith) ∙ (take_all i (take i (drop by xs)) (omega arith) ∙ take_all i (drop by xs) (omega arith)))
+-- all but the first are copied to the front
+pub shifted : {X : Type 0} (xs ys : List X) (by n : ℕ) → n + by ≡ length xs → ys ≡ paste xs 0 (drop by xs) n → take n ys ≡ drop by xs
+shifted xs ys by n e h =
+    let d = length-drop by xs in
+    ap (take n) h ∙ (ap (λ (z : ℕ). take z (paste xs 0 (drop by xs) n)) (let z : n ≡ 0 + n = omega arith in z) ∙ (take-paste xs 0 (drop by xs) n (omega arith) (omega arith) ∙ take_all n (drop by xs) (omega arith)))
 
 module _ {V : Type 0} (class : V → Class) (ids : List ℕ) (window : List V) (es : List T.Event) (S : Seen class ids window es) where
   -- the events without the first
@@ -86,11 +65,11 @@ module _ {V : Type 0} (class : V → Class) (ids : List ℕ) (window : List V) (
 
 module _ {V : Type 0} (class : V → Class) (L : List T.Event) where
   -- four events, and the last three of them
-  pub forget_first : (ids ids' : List ℕ) (window window' : List V) → length ids ≡ 4 → length window ≡ 24 → take (length ids - 1) ids' ≡ drop 1 ids → take (length window - 6) window' ≡ drop 6 window →
+  pub forget_first : (ids ids' : List ℕ) (window window' : List V) → length ids ≡ 4 → length window ≡ 24 → take 3 ids' ≡ drop 1 ids → take 18 window' ≡ drop 6 window →
       Seen class (take 4 ids) (take 24 window) (drop (length L - 4) L) → Seen class (take 3 ids') (take 18 window') (drop (length L - 3) L)
   forget_first ids ids' window window' four many e f S =
-      let a : take 3 ids' ≡ drop 1 (take 4 ids) = ap (λ (z : ℕ). take z ids') (let z : 3 ≡ length ids - 1 = omega arith in z) ∙ (e ∙ ap (drop 1) (sym (take_all 4 ids (omega arith)))) in
-      let b : take 18 window' ≡ drop 6 (take 24 window) = ap (λ (z : ℕ). take z window') (let z : 18 ≡ length window - 6 = omega arith in z) ∙ (f ∙ ap (drop 6) (sym (take_all 24 window (omega arith)))) in
+      let a : take 3 ids' ≡ drop 1 (take 4 ids) = e ∙ ap (drop 1) (sym (take_all 4 ids (omega arith))) in
+      let b : take 18 window' ≡ drop 6 (take 24 window) = f ∙ ap (drop 6) (sym (take_all 24 window (omega arith))) in
       let n = S.0 in
       let m = length-drop (length L - 4) L in
       let t = length-take-le 4 ids (omega arith) in

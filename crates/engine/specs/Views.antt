@@ -1,14 +1,14 @@
 -- What the code's statements and events stand for in the theory.
-use Rattle.std.specs.Prelude.{◌≡◌, ℕ, ◌*◌, ◌<◌, ◌≤◌, Bool, true, ◌&&◌, List, [], map, length, take, drop, ◌==◌, nat_le, nat_lt, slice_index, slice_index_or}
+use Rattle.std.specs.Prelude.{◌≡◌, ℕ, ◌*◌, ◌<◌, ◌≤◌, Bool, true, ◌&&◌, List, [], map, length, take, drop, nat_le, nat_lt, slice_index, slice_index_or, vec_items}
 use Rattle.topl.specs.Lists.{Class, every}
 use Rattle.topl.specs.Table as T
 use Rattle.topl.specs.Runs as R
 use Rattle.engine.specs.declared.table.Pattern.{Pattern}
 use Rattle.engine.specs.declared.table.Pattern.TheVariants.{Any, Write, Same, Differs}
-use Rattle.engine.specs.declared.table.Guard.{Guard}
 use Rattle.engine.specs.declared.table.Matcher as M
 use Rattle.engine.specs.declared.table.Matcher.TheVariants as MV
 use Rattle.engine.specs.declared.table.Statement.{Statement}
+use Rattle.engine.specs.declared.table.Numbered.{Numbered}
 use Rattle.engine.specs.declared.table.Outcome.{Outcome}
 use Rattle.engine.specs.declared.table.Outcome.TheVariants.{Passes, Fails, Hangs}
 
@@ -18,20 +18,19 @@ pattern (Write r) = T.Write r
 pattern (Same r) = T.Same r
 pattern (Differs r) = T.Differs r
 
--- the patterns of a guard that count
-abbrev pub guards : Guard → List Pattern
-guards g = take g.count g.patterns
-
 abbrev pub matcher : M.Matcher → T.Matcher
 matcher MV.Any = T.any_event
-matcher (MV.Event g) = T.event_of g.id (map pattern (guards g))
+matcher (MV.Event g) = T.event_of g.id (map pattern (vec_items g.patterns))
 
--- the matchers of a statement that count
-abbrev pub listed : Statement → List T.Matcher
-listed t = map matcher (take t.span t.events)
+-- the statement from one state to another over events that meet these
+abbrev pub over : ℕ → ℕ → List M.Matcher → T.Statement
+over source target ms = record { source = source; target = target; head = slice_index_or (map matcher ms) 0 T.any_event; rest = drop 1 (map matcher ms) }
 
 abbrev pub statement : Statement → T.Statement
-statement t = record { source = t.source; target = t.target; head = slice_index_or (listed t) 0 T.any_event; rest = drop 1 (listed t) }
+statement t = over t.source t.target (vec_items t.events)
+
+abbrev pub stated : Numbered → T.Statement
+stated n = over n.source n.target n.events.now
 
 -- its register is one of the eight
 abbrev pub Within : Pattern → Type 0
@@ -40,10 +39,10 @@ Within (Write r) = r < 8
 Within (Same r) = r < 8
 Within (Differs r) = r < 8
 
--- at most six patterns count, and each names one of the eight registers
+-- it has at most six patterns, and each names one of the eight registers
 abbrev pub Inside : M.Matcher → Type 0
 Inside MV.Any = Unit {0}
-Inside (MV.Event g) = (g.count ≤ 6) × (length g.patterns ≡ 6) × ((j : ℕ) → Within (slice_index_or g.patterns j Any))
+Inside (MV.Event g) = (length (vec_items g.patterns) ≤ 6) × ((j : ℕ) → Within (slice_index_or (vec_items g.patterns) j Any))
 
 -- an id and six places are those of an event
 abbrev pub Shown : {V : Type 0} → (V → Class) → ℕ → List V → T.Event → Type 0
@@ -69,8 +68,11 @@ within (Differs r) = nat_lt r 8
 
 abbrev pub inside : M.Matcher → Bool
 inside MV.Any = true
-inside (MV.Event g) = nat_le g.count 6 && (length g.patterns == 6 && every within g.patterns)
+inside (MV.Event g) = nat_le (length (vec_items g.patterns)) 6 && every within (vec_items g.patterns)
 
--- it spans one to four events and names the eight registers only (that an array has its length is not known where it is not read)
+-- one to four matchers, which name the eight registers only
+abbrev pub fit : List M.Matcher → Bool
+fit ms = (nat_le 1 (length ms) && nat_le (length ms) 4) && every inside ms
+
 abbrev pub sound : Statement → Bool
-sound t = (nat_le 1 t.span && nat_le t.span 4) && (every inside t.events && length t.events == 4)
+sound t = fit (vec_items t.events)

@@ -1,11 +1,12 @@
 // How a statement fares on the events that come next.
 ghost use Rattle.std.specs.Prelude.{◌≡◌, ℕ, ◌+◌, ◌*◌, ◌<◌, ◌≤◌, true, List, map, length, take, drop};
-ghost use Rattle.topl.specs.Table.{Event as Happening, matchers};
+ghost use Rattle.topl.specs.Lists.{every};
+ghost use Rattle.topl.specs.Table.{Event as Happening};
 ghost use Rattle.topl.specs.Runs.{fits, meets, written, writes, fares};
-ghost use Rattle.engine.specs.Views.{pattern, matcher, statement, Within, Inside, Shown, Seen, sound, told};
+ghost use Rattle.engine.specs.Views.{pattern, matcher, Within, Inside, Shown, Seen, inside, told};
 
 use crate::scene::Scene;
-use crate::table::{Matcher, Outcome, Pattern, Statement};
+use crate::table::{Matcher, Outcome, Pattern};
 use kinds::kind::Kind;
 
 // Does a value fit a pattern?
@@ -22,9 +23,9 @@ fn fits_pattern<K: Kind>(registers: &[K::Value], v: K::Value, p: Pattern) -> boo
 }
 
 // Does an event, by its id and its six places, meet a matcher? All reads see the registers from before its writes.
-fn meets_matcher<K: Kind>(registers: &[K::Value], id: u32, places: &[K::Value], m: Matcher) -> bool
-    requires { (length registers.now ≡ 8) × (length places.now ≡ 6) × Inside m }
-    ensures { (e : Happening) → Shown K.Kind.class id places.now e → result ≡ meets (map K.Kind.class registers.now) e (matcher m) }
+fn meets_matcher<K: Kind>(registers: &[K::Value], id: u32, places: &[K::Value], m: &Matcher) -> bool
+    requires { (length registers.now ≡ 8) × (length places.now ≡ 6) × Inside m.now }
+    ensures { (e : Happening) → Shown K.Kind.class id places.now e → result ≡ meets (map K.Kind.class registers.now) e (matcher m.now) }
 {
     match m {
         Matcher::Any => true,
@@ -32,8 +33,8 @@ fn meets_matcher<K: Kind>(registers: &[K::Value], id: u32, places: &[K::Value], 
             if guard.id != id {
                 return false;
             }
-            for j in 0..guard.count {
-                if !fits_pattern::<K>(registers, places[j], guard.patterns[j]) {
+            for (j, p) in guard.patterns.iter().enumerate() {
+                if !fits_pattern::<K>(registers, places[j], *p) {
                     return false;
                 }
             }
@@ -53,13 +54,13 @@ fn write_pattern<K: Kind>(registers: &mut [K::Value], v: K::Value, p: Pattern)
 }
 
 // Writes what a matcher's patterns write.
-fn write_matcher<K: Kind>(registers: &mut [K::Value], places: &[K::Value], m: Matcher)
-    requires { (length registers.old ≡ 8) × (length places.now ≡ 6) × Inside m }
-    ensures { (id : ℕ) (e : Happening) → Shown K.Kind.class id places.now e → map K.Kind.class registers.new ≡ writes (map K.Kind.class registers.old) e (matcher m) }
+fn write_matcher<K: Kind>(registers: &mut [K::Value], places: &[K::Value], m: &Matcher)
+    requires { (length registers.old ≡ 8) × (length places.now ≡ 6) × Inside m.now }
+    ensures { (id : ℕ) (e : Happening) → Shown K.Kind.class id places.now e → map K.Kind.class registers.new ≡ writes (map K.Kind.class registers.old) e (matcher m.now) }
 {
     if let Matcher::Event(guard) = m {
-        for j in 0..guard.count {
-            write_pattern::<K>(registers, places[j], guard.patterns[j]);
+        for (j, p) in guard.patterns.iter().enumerate() {
+            write_pattern::<K>(registers, places[j], *p);
         }
     }
 }
@@ -75,24 +76,23 @@ fn places_of<V: Copy>(window: &[V], i: usize) -> &[V]
     &window[from..to]
 }
 
-// How a statement fares from event `from` of the window on. Where it passes, the registers are then those after its writes.
+// How the matchers of a statement fare from event `from` of the window on. Where they pass, the registers are then those after their writes.
 pub(crate) fn attempt_statement<K: Kind>(
     scene: &Scene<'_, K::Value>,
-    t: &Statement,
+    matchers: &[Matcher],
     from: usize,
     registers: &mut [K::Value],
 ) -> Outcome
-    requires { (sound t.now ≡ true) × (length scene.now.window.now ≡ 6 * length scene.now.ids.now) × (from ≤ length scene.now.ids.now) × (length registers.old ≡ 8) }
+    requires { (every inside matchers.now ≡ true) × (length scene.now.window.now ≡ 6 * length scene.now.ids.now) × (from ≤ length scene.now.ids.now) × (length registers.old ≡ 8) }
     ensures { (es : List Happening) → Seen K.Kind.class scene.now.ids.now scene.now.window.now es
-        → told result (map K.Kind.class registers.new) ≡ fares (matchers (statement t.now)) (map K.Kind.class registers.old) (drop from es) }
+        → told result (map K.Kind.class registers.new) ≡ fares (map matcher matchers.now) (map K.Kind.class registers.old) (drop from es) }
 {
-    for j in 0..t.span {
+    for (j, matcher) in matchers.iter().enumerate() {
         let i = from + j;
         if i >= scene.ids.len() {
             return Outcome::Hangs;
         }
         let places = places_of(scene.window, i);
-        let matcher = t.events[j];
         if !meets_matcher::<K>(registers, scene.ids[i], places, matcher) {
             return Outcome::Fails;
         }

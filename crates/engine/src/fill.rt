@@ -1,10 +1,11 @@
 // What the moves from earlier positions bring to one position.
 ghost use Rattle.std.specs.Prelude.{◌≡◌, ℕ, ◌+◌, ◌-◌, ◌*◌, ◌%◌, ◌<◌, ◌≤◌, true, false, List, [], ◌∷◌, map, length, take, drop, ◌≢◌, slice_index_or};
 ghost use Rattle.topl.specs.Lists.{each, every, ◌∈◌};
-ghost use Rattle.topl.specs.Table.{Event as Happening, Table as TheTable, numbered, implied, matchers};
+ghost use Rattle.topl.specs.Table.{Event as Happening, Table as TheTable, numbered, implied};
 ghost use Rattle.topl.specs.Runs.{Registers, World, Reach, quiet, calm, fares, lands, skips, moves};
 ghost use Rattle.topl.specs.Rows.{landed, incoming};
-ghost use Rattle.engine.specs.Views.{statement, sound, Seen};
+ghost use Rattle.engine.specs.declared.table.Matcher.TheVariants.{Any};
+ghost use Rattle.engine.specs.Views.{matcher, statement, stated, inside, fit, sound, Seen};
 ghost use Rattle.engine.specs.Trails.{steps_to, steps_by};
 ghost use Rattle.engine.specs.Fronts.{configuration, row_at, grid, Room};
 ghost use Rattle.engine.specs.Fills.{Ready, Fills, Staged, Watched, Safe, Tracked, Brought, first_error, mode_of};
@@ -21,30 +22,27 @@ use kinds::kind::Kind;
 // The state that no run may reach.
 const ERROR: u8 = 1;
 
-// The statement start -> start: *, numbered 65.
-const IMPLIED: Numbered = Numbered {
-    number: 65,
-    statement: Statement {
-        source: 0,
-        target: 0,
-        span: 1,
-        events: [Matcher::Any; 4],
-    },
-};
-
 // The statement at place i of all that a property has, with its number: the written ones from 1 on, then the implied one.
-fn statement_at(statements: &[Statement], i: usize) -> Numbered
-    requires { (i ≤ length statements.now) × (every sound statements.now ≡ true) × (length statements.now ≤ 64) }
-    ensures is { (P : TheTable) → P.statements ≡ map statement statements.now → slice_index_or (numbered P) i (65, implied) ≡ (result.number, statement result.statement) }
-    ensures sound { sound result.statement ≡ true }
+fn statement_at<'a>(statements: &'a [Statement], any: &'a [Matcher], i: usize) -> Numbered<'a>
+    requires { (any.now ≡ Any ∷ []) × (i ≤ length statements.now) × (every sound statements.now ≡ true) × (length statements.now ≤ 64) }
+    ensures is { (P : TheTable) → P.statements ≡ map statement statements.now → slice_index_or (numbered P) i (65, implied) ≡ (result.number, stated result) }
+    ensures sound { fit result.events.now ≡ true }
 {
     if i < statements.len() {
+        let t = &statements[i];
         Numbered {
             number: i as u8 + 1,
-            statement: statements[i],
+            source: t.source,
+            target: t.target,
+            events: &t.events,
         }
     } else {
-        IMPLIED
+        Numbered {
+            number: 65,
+            source: 0,
+            target: 0,
+            events: any,
+        }
     }
 }
 
@@ -78,20 +76,20 @@ fn land<K: Kind>(
     }
 }
 
-// Does a statement that leaves the state let a skip go on: it fails or, once the list has ended, hangs?
+// Does a statement that leaves the state, by its matchers, let a skip go on: it fails or, once the list has ended, hangs?
 fn is_calm<K: Kind>(
     scene: &Scene<'_, K::Value>,
-    t: &Statement,
+    matchers: &[Matcher],
     from: usize,
     held: &[K::Value],
     scratch: &mut [K::Value],
 ) -> bool
-    requires { (sound t.now ≡ true) × Staged scene.now × (from ≤ length scene.now.ids.now) × (length held.now ≡ 8) × (length scratch.old ≡ 8) }
+    requires { (every inside matchers.now ≡ true) × Staged scene.now × (from ≤ length scene.now.ids.now) × (length held.now ≡ 8) × (length scratch.old ≡ 8) }
     ensures { (es : List Happening) → Seen K.Kind.class scene.now.ids.now scene.now.window.now es
-        → result ≡ calm (mode_of scene.now.closed) (fares (matchers (statement t.now)) (map K.Kind.class held.now) (drop from es)) }
+        → result ≡ calm (mode_of scene.now.closed) (fares (map matcher matchers.now) (map K.Kind.class held.now) (drop from es)) }
 {
     scratch.copy_from_slice(held);
-    match attempt_statement::<K>(scene, t, from, scratch) {
+    match attempt_statement::<K>(scene, matchers, from, scratch) {
         Outcome::Passes => false,
         Outcome::Fails => true,
         Outcome::Hangs => scene.closed,
@@ -110,13 +108,14 @@ fn is_quiet<K: Kind>(
     ensures { (base : ℕ) (P : TheTable) (w : World) → Watched K.Kind.class scene.now base P w
         → result ≡ quiet w (base + from) (configuration K.Kind.class state held.now) (numbered P) }
 {
+    let any = [Matcher::Any];
     let count = scene.statements.len() + 1;
     for i in 0..count {
-        let t = statement_at(scene.statements, i);
-        if t.statement.source != state {
+        let t = statement_at(scene.statements, &any, i);
+        if t.source != state {
             continue;
         }
-        if !is_calm::<K>(scene, &t.statement, from, held, scratch) {
+        if !is_calm::<K>(scene, t.events, from, held, scratch) {
             return false;
         }
     }
@@ -126,7 +125,7 @@ fn is_quiet<K: Kind>(
 // What one statement brings from a configuration to the position at the end of a way.
 fn step_statement<K: Kind>(
     scene: &Scene<'_, K::Value>,
-    t: &Numbered,
+    t: &Numbered<'_>,
     way: Way,
     at: Mark,
     held: &[K::Value],
@@ -136,18 +135,18 @@ fn step_statement<K: Kind>(
     book: &mut Book,
 ) -> Option<Entry>
     requires { Staged scene.now × (way.from ≤ length scene.now.ids.now) × (length held.now ≡ 8) × (length scratch.old ≡ 8)
-        × (way.slot < 5) × Room way.cap (grid front.old rows.old book.old.entries.items book.old.used) × (at.entry < book.old.used) × (sound t.now.statement ≡ true) }
+        × (way.slot < 5) × Room way.cap (grid front.old rows.old book.old.entries.items book.old.used) × (at.entry < book.old.used) × (fit t.now.events.now ≡ true) }
     ensures safe { Safe way.cap way.slot (grid front.old rows.old book.old.entries.items book.old.used) (grid front.new rows.new book.new.entries.items book.new.used) result }
     ensures brings { (base : ℕ) (P : TheTable) (k : Registers) (w : World) → Watched K.Kind.class scene.now base P w
-        → (t.now.number, statement t.now.statement) ∈ numbered P
+        → (t.now.number, stated t.now) ∈ numbered P
         → Reach P k w (base + way.from) (configuration K.Kind.class at.state held.now) (steps_to book.old.entries.items at.entry)
         → Brought K.Kind.class way.cap way.slot P k w (base + way.from + way.distance) (grid front.old rows.old book.old.entries.items book.old.used) (grid front.new rows.new book.new.entries.items book.new.used)
-        (landed (base + way.from + way.distance) (lands w (base + way.from) (configuration K.Kind.class at.state held.now) (t.now.number, statement t.now.statement))) result }
+        (landed (base + way.from + way.distance) (lands w (base + way.from) (configuration K.Kind.class at.state held.now) (t.now.number, stated t.now))) result }
 {
-    if t.statement.source != at.state {
+    if t.source != at.state {
         return None;
     }
-    if t.statement.span != way.distance {
+    if t.events.len() != way.distance {
         return None;
     }
     scratch.copy_from_slice(held);
@@ -155,8 +154,8 @@ fn step_statement<K: Kind>(
         parent: at.entry,
         step: t.number,
     };
-    match attempt_statement::<K>(scene, &t.statement, way.from, scratch) {
-        Outcome::Passes => land::<K>(front, rows, book, way, from, t.statement.target, scratch),
+    match attempt_statement::<K>(scene, t.events, way.from, scratch) {
+        Outcome::Passes => land::<K>(front, rows, book, way, from, t.target, scratch),
         Outcome::Fails => None,
         Outcome::Hangs => None,
     }
@@ -222,9 +221,10 @@ fn step_configuration<K: Kind>(
             return Some(entry);
         }
     }
+    let any = [Matcher::Any];
     let count = scene.statements.len() + 1;
     for i in 0..count {
-        let t = statement_at(scene.statements, i);
+        let t = statement_at(scene.statements, &any, i);
         match step_statement::<K>(scene, &t, way, at, held, scratch, front, rows, book) {
             None => {}
             Some(entry) => {

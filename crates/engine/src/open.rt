@@ -19,8 +19,8 @@ fn start_registers<K: Kind>(constants: &[u8], values: &[K::Value]) -> [K::Value;
     ensures eight { length result ≡ 8 }
 {
     let mut registers = [K::nothing(); 8];
-    for j in 0..constants.len() {
-        registers[constants[j] as usize] = values[j];
+    for (j, r) in constants.iter().enumerate() {
+        registers[*r as usize] = values[j];
     }
     registers
 }

@@ -19,12 +19,12 @@ pub(crate) fn find<K: Kind>(
     requires { (8 * length states.now ≤ length values.now) × (length registers.now ≡ 8) }
     ensures { result ≡ holds alikeᶜ (row K.Kind.class states.now values.now) (configuration K.Kind.class state registers.now) }
 {
-    'configurations: for i in 0..states.len() {
-        if states[i] != state {
+    'configurations: for (i, s) in states.iter().enumerate() {
+        if *s != state {
             continue 'configurations;
         }
-        for r in 0..8 {
-            if !K::same(&registers[r], &values[8 * i + r]) {
+        for (r, value) in registers.iter().enumerate() {
+            if !K::same(value, &values[8 * i + r]) {
                 continue 'configurations;
             }
         }

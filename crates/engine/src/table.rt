@@ -16,35 +16,35 @@ pub enum Pattern {
     Differs(u8),
 }
 
-// An event of this id whose places from 0 on fit the first `count` patterns.
-#[derive(Clone, Copy)]
+// An event of this id whose places from 0 on fit the patterns, at most six.
+#[derive(Drop)]
 pub struct Guard {
     pub id: u32,
-    pub count: usize,
-    pub patterns: [Pattern; 6],
+    pub patterns: Vec<Pattern>,
 }
 
-// What one event has to meet: nothing at all, or a guard.
-#[derive(Clone, Copy)]
+// What one event has to meet: nothing at all, or a guard. No Option, whose None would read as a matcher that nothing meets.
+#[derive(Drop)]
 pub enum Matcher {
     Any,
     Event(Guard),
 }
 
-// A statement: the first `span` matchers count.
-#[derive(Clone, Copy)]
+// A statement: from one state to another over one to four events.
+#[derive(Drop)]
 pub struct Statement {
     pub source: u8,
     pub target: u8,
-    pub span: usize,
-    pub events: [Matcher; 4],
+    pub events: Vec<Matcher>,
 }
 
-// A statement and its number.
+// A statement with its number.
 #[derive(Clone, Copy)]
-pub struct Numbered {
+pub struct Numbered<'a> {
     pub number: u8,
-    pub statement: Statement,
+    pub source: u8,
+    pub target: u8,
+    pub events: &'a [Matcher],
 }
 
 // How a statement fares on the events that come next.

@@ -18,11 +18,7 @@ pub struct Window<V> {
 fn value_of<K: Kind>(values: &[K::Value], i: usize) -> K::Value
     ensures { result ≡ slice_index_or values.now i K.Kind.nothing }
 {
-    if i < values.len() {
-        values[i]
-    } else {
-        K::nothing()
-    }
+    values.get(i).copied().unwrap_or(K::nothing())
 }
 
 // What stands at place i of an event: 0 has the returned value, 1 to 5 the parameters.
@@ -48,14 +44,8 @@ pub(crate) fn forget<K: Kind>(window: &mut Window<K::Value>)
     if window.seen < 4 {
         return;
     }
-    for i in 0..3 {
-        let id = window.ids[i + 1];
-        window.ids[i] = id;
-    }
-    for j in 0..18 {
-        let value = window.places[j + 6];
-        window.places[j] = value;
-    }
+    window.ids.copy_within(1..4, 0);
+    window.places.copy_within(6..24, 0);
     window.seen = 3;
 }
 

@@ -9,8 +9,8 @@ listed g c =
     let h = ltb-true (get_or c.args.constants.now c.loop-j.j 0) 8 (every_in (λ r. ltb r 8) 0 c.args.constants.now c.loop-j.j c.loop-j-test.true c.requires.0) in
     omega (arith, h, c.loop-j.invariant.1)
 
-pub bounds-registers-constants : goal.bounds-registers-constants
-bounds-registers-constants g c = ltb-true (get_or c.args.constants.now c.loop-j.j 0) 8 (every_in (λ r. ltb r 8) 0 c.args.constants.now c.loop-j.j c.loop-j-test.true c.requires.0)
+pub bounds-registers-r : goal.bounds-registers-r
+bounds-registers-r g c = ltb-true (get_or c.args.constants.now c.loop-j.j 0) 8 (every_in (λ r. ltb r 8) 0 c.args.constants.now c.loop-j.j c.loop-j-test.true c.requires.0)
 
 pub loop-j-preserved : goal.loop-j-preserved
 loop-j-preserved g c = (

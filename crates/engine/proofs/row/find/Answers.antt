@@ -4,28 +4,28 @@ use Rattle.engine.proofs.Searches.{AlikeFrom, alike_step, alike_done, search_sta
 use Rattle.engine.proofs.Fits.{same_is}
 use Rattle.engine.proofs.row.find.Goals as goal
 
-pub configurations-preserved-then-states-i : goal.configurations-preserved-then-states-i
-configurations-preserved-then-states-i g c =
+pub configurations-preserved-then-s-state : goal.configurations-preserved-then-s-state
+configurations-preserved-then-s-state g c =
     search_state g.K.Kind.class c.args.states.now c.args.values.now c.args.state c.args.registers.now c.requires.1 c.configurations.i c.configurations-test.true c.requires.0
-    c.configurations.invariant c.if-states-i.true
+    c.configurations.invariant c.if-s-state.true
 
 pub configurations-preserved : goal.configurations-preserved
 configurations-preserved g c =
     search_register g.K.Kind.class c.args.states.now c.args.values.now c.args.state c.args.registers.now c.requires.1 c.configurations.i c.configurations-test.true c.requires.0
     c.configurations.invariant
     (alike_step g.K.Kind.class c.args.states.now c.args.values.now c.args.state c.args.registers.now c.requires.1 c.configurations.i c.configurations-test.true c.requires.0
-    c.loop-r.r c.index-registers-r.result c.index-values-i.result false c.loop-r-test.true c.index-registers-r.is c.index-values-i.is (sym c.if-not-same.true ∙ same_is _ _ _ c.same.ensures) c.loop-r.invariant)
+    c.loop-r.r c.index-registers-r.result c.index-values-i.result false (omega (arith, c.loop-r-test.true, c.requires.1)) c.index-registers-r.is c.index-values-i.is (sym c.if-not-same.true ∙ same_is _ _ _ c.same.ensures) c.loop-r.invariant)
 
 pub loop-r-preserved : goal.loop-r-preserved
 loop-r-preserved g c =
     alike_step g.K.Kind.class c.args.states.now c.args.values.now c.args.state c.args.registers.now c.requires.1 c.configurations.i c.configurations-test.true c.requires.0
-    c.loop-r.r c.index-registers-r.result c.index-values-i.result true c.loop-r-test.true c.index-registers-r.is c.index-values-i.is (sym c.if-not-same.false ∙ same_is _ _ _ c.same.ensures) c.loop-r.invariant
+    c.loop-r.r c.index-registers-r.result c.index-values-i.result true (omega (arith, c.loop-r-test.true, c.requires.1)) c.index-registers-r.is c.index-values-i.is (sym c.if-not-same.false ∙ same_is _ _ _ c.same.ensures) c.loop-r.invariant
 
 pub returns-in-configurations : goal.returns-in-configurations
 returns-in-configurations g c =
-    let e : c.loop-r.r ≡ 8 = omega arith in
+    let e : c.loop-r.r ≡ 8 = omega (arith, c.requires.1) in
     search_found g.K.Kind.class c.args.states.now c.args.values.now c.args.state c.args.registers.now c.requires.1 c.configurations.i c.configurations-test.true c.requires.0
-    c.configurations.invariant c.if-states-i.false
+    c.configurations.invariant c.if-s-state.false
     (alike_done g.K.Kind.class c.args.states.now c.args.values.now c.args.state c.args.registers.now c.requires.1 c.configurations.i c.configurations-test.true c.requires.0
     (subst (AlikeFrom g.K.Kind.class c.args.states.now c.args.values.now c.args.state c.args.registers.now c.requires.1 c.configurations.i c.configurations-test.true c.requires.0) e c.loop-r.invariant))
 
