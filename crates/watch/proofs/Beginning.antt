@@ -1,9 +1,8 @@
 -- What making a watch and a begin do to the ledger that it shows.
-use Rattle.std.proofs.Common.{◌≡◌, ℕ, ◌+◌, ◌*◌, ◌<◌, ◌≤◌, true, false, List, map, length, Some, None, vec_items, vec_len, Option, sym, refl, ap, ◌∙◌, subst, arith, Bor}
+use Rattle.std.proofs.Common.{◌≡◌, ℕ, ◌+◌, ◌*◌, ◌<◌, ◌≤◌, true, false, List, map, length, Some, None, vec_items, vec_len, sym, refl, ap, ◌∙◌, subst, arith, Bor}
 use Rattle.std.proofs.lemmas.List.{length-map}
 use Rattle.kinds.specs.declared.phase.Phase.TheVariants as phases
 use Rattle.kinds.specs.declared.refusal.Layer.TheVariants.{Watch}
-use Rattle.kinds.specs.declared.refusal.Reason.{Reason}
 use Rattle.kinds.specs.declared.refusal.Refusal.{Refusal}
 use Rattle.topl.specs.Lists.{Class}
 use Rattle.topl.specs.Table as T
@@ -50,15 +49,15 @@ made class s board book a b = record {
 }
 
 module _ {V : Type 0} (class : V → Class) (s : State V) (h : Held) (l : Ledger) (sh : Agrees class s h l) where
-  pub reasons_same : (P : T.Table) (values : List V) (board book given wanted cap : ℕ) → board ≡ vec_len s.board → book ≡ length (vec_items s.book.entries) →
-      given ≡ length values → wanted ≡ length P.constants → opening_reason (phase_of h.stage) board book given wanted cap ≡ begin_reason l P (map class values) cap
-  reasons_same P values board book given wanted cap a b g w =
-      λ j. opening_reason (sh.phase j) ((a ∙ sh.board) j) ((b ∙ sh.book) j) ((g ∙ sym (length-map values class)) j) (w j) cap
+  pub reasons_same : (P : T.Table) (values : List V) (given wanted cap : ℕ) → given ≡ length values → wanted ≡ length P.constants →
+      opening_reason (phase_of h.stage) (vec_len s.board) (length (vec_items s.book.entries)) given wanted cap ≡ begin_reason l P (map class values) cap
+  reasons_same P values given wanted cap g w =
+      λ j. opening_reason (sh.phase j) (sh.board j) (sh.book j) ((g ∙ sym (length-map values class)) j) (w j) cap
 
-  pub begin_refused : (P : T.Table) (ks : List Class) (cap : ℕ) (n : Reason) (f : Refusal) → begin_reason l P ks cap ≡ Some n → f ≡ record { layer = Watch; reason = n; place = h.judged } →
-      (m : Ledger) × Agrees class s h m × Begins l P ks cap (m, refused f)
-  begin_refused P ks cap n f e r =
-      (l, sh, subst (λ (g : Refusal). Begins l P ks cap (l, refused g)) (sym (refusal_is class s h l sh f n r)) (begins_refused l P ks cap n e))
+  pub begin_refused : (P : T.Table) (ks : List Class) (cap : ℕ) (f : Refusal) → begin_reason l P ks cap ≡ Some f.reason → f ≡ record { layer = Watch; reason = f.reason; place = h.judged } →
+      Begins l P ks cap (l, refused f)
+  begin_refused P ks cap f e r =
+      subst (λ (g : Refusal). Begins l P ks cap (l, refused g)) (sym (refusal_is class s h l sh f f.reason r)) (begins_refused l P ks cap f.reason e)
 
   module _ (x : Bor Table) (values : List V) (cap : ℕ) (free : begin_reason l (meant x.now) (map class values) cap ≡ None) where
     fits : (l.phase ≡ phases.Blank) × (((0 < cap) × (cap ≤ 64)) × ((length (map class values) ≡ length (meant x.now).constants) × ((40 * cap + 64 ≤ l.board) × (0 < l.book))))
@@ -83,7 +82,7 @@ module _ {V : Type 0} (class : V → Class) (s : State V) (h : Held) (l : Ledger
           record {
             phase = refl;
             count = sh.count ∙ ap length S.1;
-            position = sh.position ∙ S.0;
+            position = refl;
             board = o.1 ∙ sh.board;
             book = ap length o.2 ∙ sh.book;
             sound = lasting.begin_sound l P ks cap (began l P ks cap, begun) sh.sound B;

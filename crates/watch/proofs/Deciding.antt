@@ -1,6 +1,5 @@
 -- What a feed and a close that the deciding rule settles do to the ledger that a watch shows.
-use Rattle.std.proofs.Common.{◌≡◌, ℕ, ◌<◌, min, List, [], ◌∷◌, ◌++◌, length, Some, None, Ok, vec_items, Option, Result, sym, refl, ap, ◌∙◌, subst, arith, length-append, Bor}
-use Rattle.kinds.specs.declared.phase.Phase.{Phase}
+use Rattle.std.proofs.Common.{◌≡◌, ℕ, ◌<◌, min, List, [], ◌∷◌, ◌++◌, length, Some, None, Ok, vec_items, Result, sym, refl, ap, ◌∙◌, subst, arith, length-append, Bor}
 use Rattle.kinds.specs.declared.phase.Phase.TheVariants as phases
 use Rattle.kinds.specs.declared.refusal.Layer.TheVariants.{Watch}
 use Rattle.kinds.specs.declared.refusal.Reason.{Reason}
@@ -13,10 +12,10 @@ use Rattle.topl.specs.Table as T
 use Rattle.topl.specs.Runs.{World, Registers, so_far, closing}
 use Rattle.topl.specs.Deciding as D
 use Rattle.topl.specs.Theorems.{Steady}
-use Rattle.topl.specs.Ledger.{Ledger, Answer, says, refuse, refused, registers_of, world_of, turned, broken_at, rule, phase_reason, event_reason, with_event, Settles, Source, Feeds, Closes, Draws}
+use Rattle.topl.specs.Ledger.{Ledger, Answer, says, refuse, refused, registers_of, world_of, turned, broken_at, rule, event_reason, with_event, Settles, Feeds, Closes}
 use Rattle.topl.specs.History.{Sound, Means}
 use Rattle.topl.proofs.Bounded.{bounded}
-use Rattle.topl.proofs.Calls.{feeds_not, feeds_refused, feeds_ruled, closes_not, closes_ruled, draws_not}
+use Rattle.topl.proofs.Calls.{feeds_refused, feeds_ruled, closes_ruled}
 use Rattle.topl.proofs.Lasting.{lasting}
 use Rattle.engine.specs.declared.property.Table.{Table}
 use Rattle.engine.specs.Meant.{meant}
@@ -34,7 +33,7 @@ use Rattle.watch.specs.declared.standing.Asked.TheVariants.{Event, End}
 use Rattle.watch.specs.Answers.{told}
 use Rattle.watch.specs.declared.held.Breach.{Breach}
 use Rattle.watch.specs.declared.held.Stage.{Stage}
-use Rattle.watch.specs.declared.held.Stage.TheVariants.{Running, Broken, Spilled, Full, Kept}
+use Rattle.watch.specs.declared.held.Stage.TheVariants.{Running, Broken, Spilled, Full}
 use Rattle.watch.specs.Stages.{phase_of, position_of}
 use Rattle.watch.specs.Turning.{counted, idle, rests, stands, in_stage, ruled_out, Turned}
 use Rattle.watch.specs.Shows.{Agrees}
@@ -43,19 +42,6 @@ use Rattle.watch.proofs.Asking.{refusal_is}
 module _ {V : Type 0} (class : V → Class) (s : State V) (h : Held) (l : Ledger) (sh : Agrees class s h l) where
   running : (x : Bor Table) → h.stage ≡ Running x → l.phase ≡ phases.Running
   running x i = sym sh.phase ∙ ap phase_of i
-
-  -- a refusal by the phase
-  refused_by : (f : Refusal) → f ≡ record { layer = Watch; reason = f.reason; place = h.judged } → f ≡ refusal l f.reason
-  refused_by f r = refusal_is class s h l sh f f.reason r
-
-  pub feed_not : (e : T.Event) (f : Refusal) → phase_reason (phase_of h.stage) ≡ Some f.reason → f ≡ record { layer = Watch; reason = f.reason; place = h.judged } → Feeds l e (l, refused f)
-  feed_not e f p r = subst (λ (g : Refusal). Feeds l e (l, refused g)) (sym (refused_by f r)) (feeds_not l e f.reason (ap phase_reason (sym sh.phase) ∙ p))
-
-  pub close_not : (f : Refusal) → phase_reason (phase_of h.stage) ≡ Some f.reason → f ≡ record { layer = Watch; reason = f.reason; place = h.judged } → Closes l (l, refused f)
-  close_not f p r = subst (λ (g : Refusal). Closes l (l, refused g)) (sym (refused_by f r)) (closes_not l f.reason (ap phase_reason (sym sh.phase) ∙ p))
-
-  pub draw_not : (w : Source) (f : Refusal) → phase_reason (phase_of h.stage) ≡ Some f.reason → f ≡ record { layer = Watch; reason = f.reason; place = h.judged } → Draws l w (l, refused f) w
-  draw_not w f p r = subst (λ (g : Refusal). Draws l w (l, refused g) w) (sym (refused_by f r)) (draws_not l f.reason w (ap phase_reason (sym sh.phase) ∙ p))
 
   pub feed_refused : (e : T.Event) (n : Reason) (x : Bor Table) (f : Refusal) → h.stage ≡ Running x → event_reason (meant x.now) e ≡ Some n →
       f ≡ record { layer = Watch; reason = n; place = h.judged } → Feeds l e (l, refused f)

@@ -3,7 +3,7 @@ use Rattle.std.specs.Prelude.{◌≡◌, ◌<◌, List, map, length, vec_items, 
 use Rattle.std.specs.Borrow.{Bor}
 use Rattle.kinds.specs.declared.kind.Kind.{Ghosts}
 use Rattle.kinds.specs.declared.phase.Phase.TheVariants as phases
-use Rattle.kinds.specs.declared.refusal.Ending.{Ending}
+use Rattle.kinds.specs.Refusals.{Ending}
 use Rattle.topl.specs.Lists.{Class}
 use Rattle.topl.specs.Table as T
 use Rattle.topl.specs.Theorems.{seen}

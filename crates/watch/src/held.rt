@@ -27,7 +27,7 @@ pub enum Stage<'a> {
 
 impl Stage<'_> {
     // The phase alone.
-    pub fn phase(self) -> Phase
+    pub(crate) fn phase(self) -> Phase
         ensures { result ≡ phase_of self.entry }
     {
         match self {
@@ -41,7 +41,7 @@ impl Stage<'_> {
     }
 
     // The position, if it is broken.
-    pub fn position(self) -> Option<usize>
+    pub(crate) fn position(self) -> Option<usize>
         ensures { result ≡ position_of self.entry }
     {
         match self {

@@ -12,7 +12,6 @@ ghost use Rattle.watch.specs.Shows.{Shows, Turns, meaning};
 use crate::held::{Breach, Held, Stage};
 use crate::standing::{Asked, Standing, Verdict};
 use crate::watch::Watch;
-use crate::watch::reasons::may_come;
 use engine::entry::Entry;
 use engine::front::Ruling;
 use engine::property::Table;
@@ -67,8 +66,7 @@ impl<'a, K: Kind> Watch<'a, K> {
     ) -> Result<(), Refusal>
         ensures { Turns self.old (λ l r. Begins l (meant table.now) (map K.Kind.class constants.now) cap r) (began result) self.new }
     {
-        self.may_begin(constants.len(), table.constants().len(), cap)
-            .map_err(|reason| self.refuse(reason))?;
+        self.may_begin(constants.len(), table.constants().len(), cap)?;
         if !self.rows.open(table, constants, cap) {
             return Err(self.refuse(Reason::Watch(WatchReason::SmallBoard)));
         }
@@ -81,7 +79,7 @@ impl<'a, K: Kind> Watch<'a, K> {
         ensures { Turns self.old (λ l r. Feeds l (seen K.Kind.class id values.now) r) (told result) self.new }
     {
         let table = self.running()?;
-        may_come(table.methods(), id, values.len()).map_err(|reason| self.refuse(reason))?;
+        self.may_take(table.methods(), id, values.len())?;
         let judged = self.held.judged;
         let ruling = self.rows.take_event(table, judged, id, values);
         self.turn(ruling, Asked::Event)

@@ -14,7 +14,7 @@ returns-in-Begin g c l sh =
     let d = c.begin.ensures l sh in (
       d.0,
       d.1,
-      begin_at g.K.Kind.class l d.0 (meant g.K.Kind.class g.S.Source.waiting g.S.Source.ending c.args.sources.now) c.args.call c.begun.result (began c.begin.result) c.begun.ensures
+      begin_at g.K.Kind.class l d.0 (meant g.K.Kind.class g.S.Source.waiting g.S.Source.ending c.args.sources.now) c.args.call c.from.result (began c.begin.result) c.from.ensures
           c.in-Begin.table c.in-Begin.constants c.in-Begin.cap c.in-Begin.is d.2,
     )
 
@@ -23,26 +23,14 @@ returns-in-Feed g c l sh =
     let d = c.feed.ensures l sh in (
       d.0,
       d.1,
-      feed_at g.K.Kind.class l d.0 (meant g.K.Kind.class g.S.Source.waiting g.S.Source.ending c.args.sources.now) c.args.call c.said.result (told c.feed.result) c.said.ensures
+      feed_at g.K.Kind.class l d.0 (meant g.K.Kind.class g.S.Source.waiting g.S.Source.ending c.args.sources.now) c.args.call c.from-in-Feed.result (told c.feed.result) c.from-in-Feed.ensures
           c.in-Feed.id c.in-Feed.values c.in-Feed.is d.2,
-    )
-
-pub returns-then-k-sources : goal.returns-then-k-sources
-returns-then-k-sources g c l sh = (l, sh, draw_past g.K.Kind.class g.S.Source.waiting g.S.Source.ending l c.args.sources.now c.args.call c.in-Draw.k c.in-Draw.is c.if-k-sources.true)
-
-pub returns-else-k-sources : goal.returns-else-k-sources
-returns-else-k-sources g c l sh =
-    let d = c.draw.ensures l sh in (
-      d.0,
-      d.1,
-      draw_at g.K.Kind.class g.S.Source.waiting g.S.Source.ending l d.0 c.args.sources.now c.args.call c.in-Draw.k c.index-sources-k.result c.draw.new.source
-          (drew c.draw.result) c.drawn.result c.in-Draw.is c.if-k-sources.false d.2 c.drawn.ensures,
     )
 
 pub returns-in-Close : goal.returns-in-Close
 returns-in-Close g c l sh =
     let d = c.close.ensures l sh in
-    (d.0, d.1, close_at g.K.Kind.class l d.0 (meant g.K.Kind.class g.S.Source.waiting g.S.Source.ending c.args.sources.now) c.args.call c.said-in-Close.result (told c.close.result) c.said-in-Close.ensures c.in-Close.is d.2)
+    (d.0, d.1, close_at g.K.Kind.class l d.0 (meant g.K.Kind.class g.S.Source.waiting g.S.Source.ending c.args.sources.now) c.args.call c.from-in-Close.result (told c.close.result) c.from-in-Close.ensures c.in-Close.is d.2)
 
 pub returns-in-Verdict : goal.returns-in-Verdict
 returns-in-Verdict g c l sh =
