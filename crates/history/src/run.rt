@@ -54,10 +54,13 @@ fn answer<'a, K: Kind, S: Source<K>>(
             cap,
         } => Ok(Answer::from(watch.begin(table, constants, cap))),
         Call::Feed { id, values } => Ok(Answer::from(watch.feed(id, values))),
-        Call::Draw(k) => match sources.get_mut(k) {
-            Some(source) => Ok(Answer::from(watch.draw(source))),
-            None => Ok(Answer::NoSource),
-        },
+        // Kept an index test: of `sources` after a `get_mut` the proof knows the length alone, so its goal `returns-in-Some` stays open.
+        Call::Draw(k) => {
+            if k >= sources.len() {
+                return Ok(Answer::NoSource);
+            }
+            Ok(Answer::from(watch.draw(&mut sources[k])))
+        }
         Call::Close => Ok(Answer::from(watch.close())),
         Call::Verdict => Ok(Answer::Tells(watch.verdict())),
         Call::Path(bytes) => {

@@ -78,3 +78,9 @@ returns g c =
     let long : length (take i c.args.calls.now) ≡ i = omega (arith, length-take i c.args.calls.now) in
     finish cl (vec_len c.args.board) (vec_len c.args.book) _ _ (meant cl w e c.args.sources.now) (meant cl w e c.loop-call.sources) (take i c.args.calls.now) c.args.calls.now (vec_items c.loop-call.answers) inv.0
     c.new-watch.ensures.board c.new-watch.ensures.book (take_all i c.args.calls.now (omega arith)) (inv.2 ∙ sym long) inv.3
+
+pub new-watch-requires : goal.new-watch-requires
+new-watch-requires g c = ?
+
+pub answer-requires : goal.answer-requires
+answer-requires g c = ?
