@@ -1,5 +1,5 @@
 -- From one list of events to the next.
-use Rattle.std.proofs.Common.{◌≡◌, ℕ, suc, ◌+◌, ◌-◌, ◌%◌, ◌≤◌, List, [], ◌∷◌, ◌++◌, length, drop, vec_items, sym, ap, ◌∙◌, subst, arith, length-append, length-drop}
+use Rattle.std.proofs.Common.{◌≡◌, ℕ, suc, ◌+◌, ◌-◌, ◌%◌, ◌≤◌, List, [], ◌∷◌, ◌++◌, length, drop, sym, ap, ◌∙◌, subst, arith, length-append, length-drop}
 use Rattle.std.proofs.lemmas.List.{drop-append-le, length-take-le}
 use Rattle.topl.specs.Lists.{Class}
 use Rattle.topl.specs.Table as T
@@ -10,32 +10,35 @@ use Rattle.engine.specs.declared.front.Ruling.TheVariants.{GoesOn}
 use Rattle.engine.specs.declared.state.State.{State}
 use Rattle.engine.specs.declared.window.Window.{Window}
 use Rattle.engine.specs.Fronts.{Grid}
+use Rattle.engine.specs.Grids.{grid_of}
 use Rattle.engine.specs.Fills.{Tracked}
 use Rattle.engine.specs.Judging.{Held, Decided}
 use Rattle.engine.specs.Windows.{Remembers}
-use Rattle.engine.specs.States.{grid_of, Follows}
+use Rattle.engine.specs.States.{Follows}
 
 -- the events of a window with one more
 pub remembers_more : {V : Type 0} (class : V → Class) (W : Window V) (L : List T.Event) (e : T.Event) → Remembers class W (drop (length L - 3) L ++ e ∷ []) → Remembers class W (drop (length L - 3) (L ++ e ∷ []))
 remembers_more class W L e R = subst (Remembers class W) (sym (drop-append-le (length L - 3) L (e ∷ []) (omega arith))) R
 
 -- as many as count
-pub seen_count : {V : Type 0} (class : V → Class) (W : Window V) (L : List T.Event) (b n : ℕ) → length W.ids ≡ 4 → W.seen ≤ 4 → b ≤ length L → length L ≡ n → Remembers class W (drop b L) → b + W.seen ≡ n
-seen_count class W L b n four few l e R =
+pub seen_count : {V : Type 0} (class : V → Class) (W : Window V) (L : List T.Event) (b n : ℕ) → b ≤ length L → length L ≡ n → Remembers class W (drop b L) → b + W.seen ≡ n
+seen_count class W L b n l e R =
     let a = R.0 in
     let d = length-drop b L in
+    let four = W.four in
+    let few = W.few in
     let t = length-take-le W.seen W.ids (omega arith) in
     omega arith
 
-module _ {V : Type 0} (class : V → Class) (s t : State V) (g : Grid V) (P : T.Table) (k : Registers) (L : List T.Event) (e : T.Event) (r : Ruling) (book : g.book ≡ vec_items s.book.entries)
-    (D : Decided class s.cap g (grid_of t) (length L - 3) (suc (length L)) P k L (so_far (L ++ e ∷ [])) r) (cap : t.cap ≡ s.cap) (W : Remembers class t.window (drop (length L - 3) (L ++ e ∷ []))) where
+module _ {V : Type 0} (class : V → Class) (s t : State V) (g : Grid V) (P : T.Table) (k : Registers) (L : List T.Event) (e : T.Event) (r : Ruling)
+    (D : Decided class s.grid.cap g (grid_of t.grid) (length L - 3) (suc (length L)) P k L (so_far (L ++ e ∷ [])) r) (cap : t.grid.cap ≡ s.grid.cap) (W : Remembers class t.window (drop (length L - 3) (L ++ e ∷ []))) where
   long : length (L ++ e ∷ []) ≡ suc (length L)
   long = let n = length-append L (e ∷ []) in omega arith
 
   pub follows_on : r ≡ GoesOn → Follows class t P k (L ++ e ∷ [])
   follows_on x = record {
-    held = λ q l m. let n = long in subst (λ (c : ℕ). Held class c (grid_of t) P k (so_far (L ++ e ∷ [])) q) (sym cap) (D.held x q (omega arith) (omega arith));
-    tracked = λ q l m. let n = long in subst (λ (c : ℕ). Tracked class c P k (so_far (L ++ e ∷ [])) q (grid_of t) (q % 5)) (sym cap) (D.tracked x q (omega arith) (omega arith));
+    held = λ q l m. let n = long in subst (λ (c : ℕ). Held class c (grid_of t.grid) P k (so_far (L ++ e ∷ [])) q) (sym cap) (D.held x q (omega arith) (omega arith));
+    tracked = λ q l m. let n = long in subst (λ (c : ℕ). Tracked class c P k (so_far (L ++ e ∷ [])) q (grid_of t.grid) (q % 5)) (sym cap) (D.tracked x q (omega arith) (omega arith));
     total = D.total x ∙ ap (λ (z : ℕ). sum (suc z) (count P k (so_far (L ++ e ∷ [])))) (sym long);
     window = let n = long in subst (λ (z : ℕ). Remembers class t.window (drop z (L ++ e ∷ []))) (let z : length L - 3 ≡ length (L ++ e ∷ []) - 4 = omega arith in z) W;
   }

@@ -1,5 +1,5 @@
 -- How a row fills, and its entries with it.
-use Rattle.std.proofs.Common.{◌≡◌, ℕ, suc, ◌+◌, ◌*◌, ◌<◌, ◌≤◌, Bool, true, false, cond, ◌&&◌, List, [], ◌∷◌, ◌++◌, length, get_or, drop, Some, None, Option, sym, refl, ap, ◌∙◌, subst, ⊎_elim, append_assoc, arith}
+use Rattle.std.proofs.Common.{◌≡◌, ℕ, suc, ◌+◌, ◌*◌, ◌<◌, ◌≤◌, Bool, true, false, cond, ◌&&◌, List, [], ◌∷◌, ◌++◌, length, get_or, drop, Ok, Err, Result, vec_items, vec_len, sym, refl, ap, ◌∙◌, subst, ⊎_elim, append_assoc, arith}
 use Rattle.std.proofs.lemmas.List.{append-nil, get_or_append_left, get_or_push}
 use Rattle.std.proofs.lemmas.Bool.{or_right, or_from, cases_lt, cond-false, ne_eqb, and_right}
 use Rattle.topl.specs.Lists.{Class, holds}
@@ -9,9 +9,11 @@ use Rattle.topl.specs.Rows.{Filled, landed}
 use Rattle.topl.specs.Deciding.{any_error}
 use Rattle.topl.proofs.Loops.{filled_added, filled_held, filled_spilled, error_append}
 use Rattle.engine.specs.declared.entry.Entry.{Entry}
+use Rattle.engine.specs.declared.grid.Grid as G
 use Rattle.engine.specs.Trails.{steps_to, steps_by, room_of}
-use Rattle.engine.specs.Fronts.{row_at, count_at, entries_at, Grid, grid, Room, Comes}
-use Rattle.engine.specs.Fills.{Tracked, Fits, Grows, Brought, Safe}
+use Rattle.engine.specs.Fronts.{row_at, count_at, entries_at, Grid, grid, Room, Spares, Comes}
+use Rattle.engine.specs.Grids.{grid_of}
+use Rattle.engine.specs.Fills.{Tracked, Tracks, Fits, Grows, Brought, Brings, Safe}
 use Rattle.engine.proofs.Fronts.{length_row_at, length_entries, entry_read}
 
 -- a grid whose row has spilled
@@ -107,8 +109,8 @@ module _ {V : Type 0} (class : V → Class) (cap : ℕ) (P : T.Table) (k : Regis
       tracked = λ _ t. t;
     }
 
-    pub brought_none : (added : List Configuration) → added ≡ [] → Brought class cap slot P k w p g g added None
-    brought_none added e = subst (λ z. Brought class cap slot P k w p g g z None) (sym e) (refl, grows_none)
+    pub brought_none : (added : List Configuration) → added ≡ [] → Brought class cap slot P k w p g g added (Ok tt)
+    brought_none added e = subst (λ z. Brought class cap slot P k w p g g z (Ok tt)) (sym e) (refl, grows_none)
 
   -- one after the other
   module _ (slot : ℕ) (g h j : Grid V) (xs ys : List Configuration) where
@@ -130,9 +132,9 @@ module _ {V : Type 0} (class : V → Class) (cap : ℕ) (P : T.Table) (k : Regis
         second : Fits slot g j → Fits slot h j
         second f = let a = A.counted (first f) in let l = A.long in omega (arith, f)
 
-    pub brought_on : (r : Option Entry) → Brought class cap slot P k w p g h xs None → Brought class cap slot P k w p h j ys r → Brought class cap slot P k w p g j (xs ++ ys) r
-    brought_on (Some x) a b = (error_append xs ys ∙ or_right (any_error xs) (any_error ys) b.0, b.1)
-    brought_on None a b = (error_append xs ys ∙ or_from (any_error xs) (any_error ys) a.0 b.0, grows_on a.1 b.1)
+    pub brought_on : (r : Result (Unit {0}) Entry) → Brought class cap slot P k w p g h xs (Ok tt) → Brought class cap slot P k w p h j ys r → Brought class cap slot P k w p g j (xs ++ ys) r
+    brought_on (Err x) a b = (error_append xs ys ∙ or_right (any_error xs) (any_error ys) b.0, b.1)
+    brought_on (Ok _) a b = (error_append xs ys ∙ or_from (any_error xs) (any_error ys) a.0 b.0, grows_on a.1 b.1)
 
 -- a skip leads to the next position only, and nowhere where some statement is loud
 module _ (P : T.Table) (w : World) (q : ℕ) where
@@ -154,35 +156,64 @@ entry_steps class cap slot i g h five R S l (ec, ee) kept =
     let n = length_entries class cap slot g five R in
     ap (steps_to h.book) (entry_read class cap slot i h five S (omega arith) ∙ ap (λ z. get_or z i 0) ee) ∙ kept (get_or (entries_at g.front slot) i 0) (R.5 slot i (omega arith))
 
--- whatever the events are
-module _ {V : Type 0} (cap slot : ℕ) (g : Grid V) (R : Room cap g) where
-  pub safe_none : Safe cap slot g g None
-  safe_none = record { room = R; more = omega arith; spares = λ k n. (refl, refl); long = refl; known = λ x e. absurd (none_some x e) }
+-- Whatever the events are.
+module _ {V : Type 0} (slot : ℕ) (g : G.Grid V) where
+  -- nothing is told
+  pub safe_ok : (h : G.Grid V) → h.cap ≡ g.cap → vec_len h.board ≡ vec_len g.board → g.book.used ≤ h.book.used → Spares slot g.front h.front → length (vec_items h.book.entries) ≡ length (vec_items g.book.entries) → Safe slot g h (Ok tt)
+  safe_ok h c b m s l = record { cap = c; board = b; more = m; spares = s; long = l; known = λ x e. absurd (ok_err x e) }
     where
-      none_some : (x : Entry) → ◌≡◌ {A = Option Entry} None (Some x) → ⊥
-      none_some x e = let z : ◌≡◌ {A = ℕ} 0 1 = cc in omega arith
+      ok_err : (x : Entry) → ◌≡◌ {A = Result (Unit {0}) Entry} (Ok tt) (Err x) → ⊥
+      ok_err x e = let z : ◌≡◌ {A = ℕ} 0 1 = cc in omega arith
 
-  pub safe_spill : Safe cap slot g (spill g) None
-  safe_spill = record { room = R; more = omega arith; spares = λ k n. (refl, refl); long = refl; known = safe_none.known }
+  pub safe_none : Safe slot g g (Ok tt)
+  safe_none = safe_ok g refl refl (omega arith) (λ k n. (refl, refl)) refl
 
-  pub safe_comes : (class : V → Class) (h : Grid V) (from : Entry) (c : Configuration) → Comes class cap g h slot from c → Safe cap slot g h None
-  safe_comes class h from c C = record { room = C.room; more = C.enters.more; spares = C.spares; long = C.enters.long; known = λ x e. absurd (none_some x e) }
+  -- nothing came
+  pub safe_same : (h : G.Grid V) → h.cap ≡ g.cap → vec_len h.board ≡ vec_len g.board → grid_of h ≡ grid_of g → Safe slot g h (Ok tt)
+  safe_same h c b e =
+      let u = ap (λ (z : Grid V). z.used) e in
+      safe_ok h c b (omega arith) (λ k n. (ap (λ (z : Grid V). count_at z.front k) e, ap (λ (z : Grid V). entries_at z.front k) e)) (ap (λ (z : Grid V). length z.book) e)
+
+  pub safe_spilled : (h : G.Grid V) → h.cap ≡ g.cap → vec_len h.board ≡ vec_len g.board → grid_of h ≡ spill (grid_of g) → Safe slot g h (Ok tt)
+  safe_spilled h c b e =
+      let u = ap (λ (z : Grid V). z.used) e in
+      safe_ok h c b (omega arith) (λ k n. (ap (λ (z : Grid V). count_at z.front k) e, ap (λ (z : Grid V). entries_at z.front k) e)) (ap (λ (z : Grid V). length z.book) e)
+
+  pub safe_comes : (class : V → Class) (h : G.Grid V) (from : Entry) (c : Configuration) → h.cap ≡ g.cap → vec_len h.board ≡ vec_len g.board → Comes class g.cap (grid_of g) (grid_of h) slot from c → Safe slot g h (Ok tt)
+  safe_comes class h from c k b C = safe_ok h k b C.enters.more C.spares C.enters.long
+
+  pub safe_told : (x : Entry) → x.parent < g.book.used → Safe slot g g (Err x)
+  safe_told x l = record { cap = refl; board = refl; more = omega arith; spares = λ k n. (refl, refl); long = refl; known = λ y e. subst (λ (o : Result (Unit {0}) Entry). Told o) e l }
     where
-      none_some : (x : Entry) → ◌≡◌ {A = Option Entry} None (Some x) → ⊥
-      none_some x e = let z : ◌≡◌ {A = ℕ} 0 1 = cc in omega arith
+      Told : Result (Unit {0}) Entry → Type 0
+      Told (Ok _) = Unit {0}
+      Told (Err y) = y.parent < g.book.used
 
-  pub safe_told : (x : Entry) → x.parent < g.used → Safe cap slot g g (Some x)
-  safe_told x l = record { room = R; more = omega arith; spares = λ k n. (refl, refl); long = refl; known = λ y e. subst (λ (o : Option Entry). Told o) e l }
-    where
-      Told : Option Entry → Type 0
-      Told None = Unit {0}
-      Told (Some y) = y.parent < g.used
-
-pub safe_on : {V : Type 0} (cap slot : ℕ) (g h j : Grid V) (r : Option Entry) → Safe cap slot g h None → Safe cap slot h j r → Safe cap slot g j r
-safe_on cap slot g h j r A B = record {
-  room = B.room;
+pub safe_on : {V : Type 0} (slot : ℕ) (g h j : G.Grid V) (r : Result (Unit {0}) Entry) → Safe slot g h (Ok tt) → Safe slot h j r → Safe slot g j r
+safe_on slot g h j r A B = record {
+  cap = B.cap ∙ A.cap;
+  board = B.board ∙ A.board;
   more = let m = A.more in let n = B.more in omega arith;
   spares = λ k n. ((B.spares k n).0 ∙ (A.spares k n).0, (B.spares k n).1 ∙ (A.spares k n).1);
   long = B.long ∙ A.long;
   known = B.known;
 }
+
+-- a grid with the cap of another has room by it
+pub room_by : {V : Type 0} (cap : ℕ) (h : G.Grid V) → h.cap ≡ cap → Room cap (grid_of h)
+room_by cap h e = subst (λ (z : ℕ). Room z (grid_of h)) e h.room
+
+module _ {V : Type 0} (class : V → Class) (slot : ℕ) (P : T.Table) (k : Registers) (w : World) (p : ℕ) where
+  pub brings_none : slot < 5 → (g : G.Grid V) (added : List Configuration) → added ≡ [] → Brings class slot P k w p g g added (Ok tt)
+  brings_none five g added e = brought_none class g.cap P k w p slot five (grid_of g) g.room added e
+
+  pub brings_on : (g h j : G.Grid V) → h.cap ≡ g.cap → (xs ys : List Configuration) (r : Result (Unit {0}) Entry) → Brings class slot P k w p g h xs (Ok tt) → Brings class slot P k w p h j ys r → Brings class slot P k w p g j (xs ++ ys) r
+  brings_on g h j e xs ys r A B =
+      brought_on class g.cap P k w p slot (grid_of g) (grid_of h) (grid_of j) xs ys r A (subst (λ (z : ℕ). Brought class z slot P k w p (grid_of h) (grid_of j) ys r) e B)
+
+-- a position that is as it was is tracked as it was
+pub tracks_kept : {V : Type 0} (class : V → Class) (P : T.Table) (k : Registers) (w : World) (p : ℕ) (g h : G.Grid V) (slot : ℕ) → slot < 5 → h.cap ≡ g.cap →
+    row_at class g.cap (grid_of h) slot ≡ row_at class g.cap (grid_of g) slot → (count_at h.front slot ≡ count_at g.front slot) × (entries_at h.front slot ≡ entries_at g.front slot) →
+    ((n : ℕ) → n < g.book.used → steps_to (vec_items h.book.entries) n ≡ steps_to (vec_items g.book.entries) n) → Tracks class P k w p g slot → Tracks class P k w p h slot
+tracks_kept class P k w p g h slot five e er ec kept t =
+    subst (λ (z : ℕ). Tracked class z P k w p (grid_of h) slot) (sym e) (tracked_kept class g.cap P k w p (grid_of g) (grid_of h) slot five g.room er ec kept t)

@@ -1,9 +1,10 @@
 -- Laws of rows.
-use Rattle.std.proofs.Common.{◌≡◌, ℕ, zero, suc, ◌+◌, ◌-◌, ◌*◌, ◌<◌, ◌≤◌, false, List, [], ◌∷◌, ◌++◌, length, get_or, take, drop, set, sym, refl, ap, ◌∙◌, subst, ap₂, ⊎_elim, append_assoc, add_assoc, mul-le-mul_right, add-mul, arith, length-drop, length-take, take-add}
+use Rattle.std.proofs.Common.{◌≡◌, ℕ, zero, suc, ◌+◌, ◌-◌, ◌*◌, ◌<◌, ◌≤◌, false, List, [], ◌∷◌, ◌++◌, length, get_or, take, drop, set, sym, refl, ap, ◌∙◌, subst, ap₂, ⊎_elim, append_assoc, add_assoc, mul-le-mul_right, add-mul, arith, length-drop, length-take, take-add, vec_items, Vec}
 use lib.Seq.{paste, take-paste, drop-paste, length-paste}
 use borrow.Rule.Slice.PartMut.{put_mid}
-use Rattle.std.proofs.lemmas.List.{drop-set-add, drop-set-lt, take-set-le, take_more_set, get_or-set_same, get_or-set_other, take-take, drop-take, drop-drop, take-append-drop, drop-append-le, take-append-le, length-take-le, drop_at, take_all, length-set, get_or-take, get_or-drop}
+use Rattle.std.proofs.lemmas.List.{drop-set-add, drop-set-lt, take-set-le, take_more_set, get_or-set_same, get_or-set_other, take-take, drop-take, drop-drop, take-append-drop, drop-append-le, take-append-le, length-take-le, drop_at, take_all, length-set, get_or-take, get_or-drop, with_items_is}
 use Rattle.std.proofs.lemmas.Bool.{cases_lt, cases_eq}
+use Rattle.std.specs.Vec.{with_items}
 use Rattle.topl.specs.Lists.{Class, holds}
 use Rattle.topl.specs.Runs.{Configuration, alikeᶜ}
 use Rattle.engine.specs.declared.front.Front.{Front}
@@ -71,6 +72,12 @@ module _ {X : Type 0} (xs rs : List X) (at n i k : ℕ) (a : at + n ≤ length x
       sym (drop-append-le (i + k) (take n (drop at xs)) (drop n (drop at xs)) lt) ∙ (ap (drop (i + k)) (take-append-drop n (drop at xs)) ∙ drop-drop (i + k) at xs) in
       simp (append_assoc, x1, x2, take-add, add_assoc)
 
+-- a board that was lent, with eight registers written
+pub board_put : {X Z : Type 0} (v : Vec X Z) (lent back rs : List X) (at : ℕ) → lent ≡ vec_items v → back ≡ paste lent at rs 8 → at + 8 ≤ length (vec_items v) → length rs ≡ 8 → vec_items (with_items v back) ≡ paste (vec_items v) at rs 8
+board_put v lent back rs at e f l n =
+    let g : back ≡ paste (vec_items v) at rs 8 = f ∙ ap (λ z. paste z at rs 8) e in
+    with_items_is v back (ap length g ∙ (length-paste (vec_items v) at rs 8 l (omega arith) ∙ sym v.ok.0)) ∙ g
+
 -- what a write of k values at a place leaves, and where
 module _ {X : Type 0} (xs rs : List X) (at k : ℕ) (h : at + k ≤ length xs) (e : length rs ≡ k) where
   pub paste_below : (a n : ℕ) → a + n ≤ at → take n (drop a (paste xs at rs k)) ≡ take n (drop a xs)
@@ -128,7 +135,7 @@ module _ {V : Type 0} (class : V → Class) where
     inner : slot * (8 * cap) + 8 * cap ≤ 40 * cap
     inner = let h : slot + 1 ≤ 5 = omega arith in omega (arith, mul-le-mul_right (8 * cap) h, add-mul slot 1 (8 * cap))
 
-    fits_in : slot * (8 * cap) + 8 * count_at g.front slot + 8 ≤ length g.rows
+    pub fits_in : slot * (8 * cap) + 8 * count_at g.front slot + 8 ≤ length g.rows
     fits_in = let a = inner in let b = R.1 in omega arith
 
     few : count_at g.front slot ≤ 64
@@ -166,7 +173,7 @@ module _ {V : Type 0} (class : V → Class) where
     added_room m b =
         let f = fits_in in (
           R.0,
-          length-paste g.rows (slot * (8 * cap) + 8 * count_at g.front slot) registers 8 f (omega arith) ∙ R.1,
+          (let n = length-paste g.rows (slot * (8 * cap) + 8 * count_at g.front slot) registers 8 f (omega arith) in let m = R.1 in omega arith),
           A.long ∙ R.2,
           λ k. ⊎_elim (λ (q : k ≡ slot). subst (λ (z : ℕ). count_at G z ≤ cap) (sym q) (let a = A.count_here in omega arith)) (λ ne. let a = A.count_other k ne in let b = R.3 k in omega arith) (cases_eq k slot),
           A.long_entries ∙ R.4,
@@ -186,7 +193,6 @@ module _ {V : Type 0} (class : V → Class) where
       spares = λ k ne. (A.count_other k ne, A.entries_other k ne);
       enters = E;
       spilled = A.spilled;
-      room = added_room E.more E.known;
     }
 
   -- what the search in a position's part finds

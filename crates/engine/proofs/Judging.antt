@@ -1,5 +1,5 @@
 -- From position to position.
-use Rattle.std.proofs.Common.{◌≡◌, ℕ, zero, suc, ◌+◌, ◌%◌, ◌<◌, ◌≤◌, true, false, List, length, Option, sym, refl, ap, ◌∙◌, subst, ⊎_elim, add-one, arith}
+use Rattle.std.proofs.Common.{◌≡◌, ℕ, zero, suc, ◌+◌, ◌%◌, ◌<◌, ◌≤◌, true, false, List, length, sym, refl, ap, ◌∙◌, subst, ⊎_elim, add-one, arith}
 use Rattle.std.proofs.lemmas.Bool.{cases_eq, lt-ltb, le-ltb}
 use Rattle.topl.specs.Lists.{Class, apart}
 use Rattle.topl.specs.Table as T
@@ -11,8 +11,8 @@ use Rattle.engine.specs.declared.entry.Entry.{Entry}
 use Rattle.engine.specs.declared.front.Ruling.{Ruling}
 use Rattle.engine.specs.declared.front.Ruling.TheVariants.{Breaks, Spills, Overfills, GoesOn}
 use Rattle.engine.specs.Trails.{room_of}
-use Rattle.engine.specs.Fronts.{row_at, Grid, Room}
-use Rattle.engine.specs.Fills.{Ready, Tracked, Safe}
+use Rattle.engine.specs.Fronts.{row_at, Grid, Room, Spares}
+use Rattle.engine.specs.Fills.{Ready, Tracked}
 use Rattle.engine.specs.Judging.{ruled, Balance, Judged, Held, Start, Decided, entries_before, Along}
 use Rattle.engine.proofs.Fills.{tracked_kept}
 
@@ -82,7 +82,7 @@ module _ {V : Type 0} (class : V → Class) (cap : ℕ) (base last : ℕ) (P : T
     pub along_balance : Balance h.used p P k L w
     along_balance = balance p high ∙ ap (λ (z : ℕ). z + D.count P k w p) (sym A.entered)
 
-    module _ (j : Grid V) (r : Ruling) (o : Option Entry) (X : Safe cap (p % 5) h j o) (J : Judged class cap h j p P k L w r) where
+    module _ (j : Grid V) (r : Ruling) (X : Spares (p % 5) h.front j.front) (J : Judged class cap h j p P k L w r) where
       rules' : ruled r ≡ D.ruling_at P k cap (room_of g.book) (so_far L) w p
       rules' = J.rules ∙ ap (λ (z : ℕ). D.ruling_at P k cap z (so_far L) w p) (let l = long in omega arith)
 
@@ -113,7 +113,7 @@ module _ {V : Type 0} (class : V → Class) (cap : ℕ) (base last : ℕ) (P : T
         next_tracked q l m =
             ⊎_elim (λ (i : q ≡ p). subst (λ (z : ℕ). Tracked class cap P k w z j (z % 5)) (sym i) (J.tracked e))
             (λ (n : q ≡ p → ⊥). let ne : q % 5 ≡ p % 5 → ⊥ = λ z. n (omega arith) in
-            tracked_kept class cap P k w q h j (q % 5) (omega arith) R (J.other e (q % 5) (omega arith) ne) (X.spares (q % 5) ne) (J.kept e) (A.tracked q l m)) (cases_eq q p)
+            tracked_kept class cap P k w q h j (q % 5) (omega arith) R (J.other e (q % 5) (omega arith) ne) (X (q % 5) ne) (J.kept e) (A.tracked q l m)) (cases_eq q p)
 
         pub along_more : Along class cap (room_of g.book) j base last (p + 1) P k L w
         along_more = subst (λ (z : ℕ). Along class cap (room_of g.book) j base last z P k L w) (sym (add-one p)) (record {

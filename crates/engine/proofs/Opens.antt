@@ -1,7 +1,7 @@
 -- What is held before the first event.
 use Rattle.std.proofs.Common.{◌≡◌, ℕ, ◌+◌, ◌*◌, ◌%◌, ◌<◌, ◌≤◌, List, [], ◌∷◌, ◌++◌, map, length, get_or, take, drop, set, sym, refl, ap, ◌∙◌, subst, ap₂, arith}
 use lib.Seq.{paste}
-use Rattle.std.proofs.lemmas.List.{take-take, take-append-le, take_all, length-append, drop_more, drop_all, length-map, map-set}
+use Rattle.std.proofs.lemmas.List.{drop_more, drop_all, length-map, map-set}
 use Rattle.topl.specs.Lists.{Class, holds, apart}
 use Rattle.topl.specs.Table as T
 use Rattle.topl.specs.Runs.{Registers, Reach, at_start, first_configuration, so_far, runs, reached, alikeᶜ}
@@ -16,12 +16,6 @@ use Rattle.engine.specs.Judging.{Held}
 use Rattle.engine.proofs.Fits.{class_read}
 use Rattle.engine.proofs.Trails.{steps_none}
 use Rattle.engine.proofs.Fronts.{added_here, added_room}
-
--- the front part of a board that was lent and came back
-pub front_part : {V : Type 0} (n m : ℕ) (xs ys zs : List V) → length xs ≡ n → n ≤ m → take n (take m ((xs ++ ys) ++ zs)) ≡ xs
-front_part n m xs ys zs e l =
-    let a : n ≤ length (xs ++ ys) = let z = length-append xs ys in omega arith in
-    take-take n m ((xs ++ ys) ++ zs) l ∙ (take-append-le n (xs ++ ys) zs a ∙ (take-append-le n xs ys (omega arith) ∙ take_all n xs (omega arith)))
 
 -- one constant more
 pub sets_more : {V : Type 0} (class : V → Class) (cs : List ℕ) (vs registers : List V) (j : ℕ) (x : V) → j < length cs → length cs ≡ length vs → x ≡ get_or vs j x →
@@ -40,7 +34,7 @@ alone : (P : T.Table) (k : Registers) → reached P k (so_far []) 0 ≡ first_co
 unfolding runs reached
 alone P k = refl
 
-module _ {V : Type 0} (class : V → Class) (cap : ℕ) (F G : Front) (rows registers : List V) (es : List Entry) (used : ℕ) (B : Bare F) (A : Added F G 0 0 0) (few : cap ≤ 64) (some : 1 ≤ cap) (long : length rows ≡ 40 * cap)
+module _ {V : Type 0} (class : V → Class) (cap : ℕ) (F G : Front) (rows registers : List V) (es : List Entry) (used : ℕ) (B : Bare F) (A : Added F G 0 0 0) (few : cap ≤ 64) (some : 1 ≤ cap) (long : 40 * cap ≤ length rows)
     (eight : length registers ≡ 8) (one : 1 ≤ used) where
   abbrev pub opened : Grid V
   opened = grid G (paste rows (0 * (8 * cap) + 8 * 0) registers 8) es used

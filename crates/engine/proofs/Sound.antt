@@ -8,7 +8,8 @@ use Rattle.engine.specs.declared.table.Pattern.{Pattern}
 use Rattle.engine.specs.declared.table.Pattern.TheVariants.{Any, Write, Same, Differs}
 use Rattle.engine.specs.declared.table.Matcher as M
 use Rattle.engine.specs.declared.table.Matcher.TheVariants as MV
-use Rattle.engine.specs.Views.{matcher, over, Within, Inside, within, inside, fit}
+use Rattle.engine.specs.declared.table.Statement.{Statement}
+use Rattle.engine.specs.Views.{matcher, over, Within, Inside, within, inside, fit, sound}
 
 pub every_at : {X : Type 0} (test : X → Bool) (d : X) (xs : List X) (i : ℕ) → test d ≡ true → every test xs ≡ true → test (get_or xs i d) ≡ true
 every_at test d [] i e h = e
@@ -58,3 +59,7 @@ module _ (source target : ℕ) (ms : List M.Matcher) (f : fit ms ≡ true) where
 
   pub span_is : T.span (over source target ms) ≡ length ms
   span_is = ap length matchers_are ∙ length-map ms matcher
+
+-- a statement that was read
+pub fit_in : (ts : List Statement) (i : ℕ) (t : Statement) → every sound ts ≡ true → i < length ts → t ≡ get_or ts i t → fit (vec_items t.events) ≡ true
+fit_in ts i t h l e = ap sound e ∙ every_in sound t ts i l h

@@ -33,5 +33,9 @@ module _ (P : T.Table) (ts : List Statement) (e : P.statements ≡ map statement
       M.numbered_at P i (statement d) (omega arith) ∙ (ap (λ z. get_or z i (statement d)) e ∙ get_or-map statement ts i d (statement d) l) in
       λ j. (a j, b j)
 
+  -- one that was read
+  pub written_is : (i : ℕ) (t : Statement) → i < length ts → t ≡ get_or ts i t → get_or (T.numbered P) i (65, T.implied) ≡ (i + 1, statement t)
+  written_is i t l is = numbered_at i t l ∙ ap (λ z. (i + 1, statement z)) (sym is)
+
   pub numbered_end : (i : ℕ) → i ≡ length ts → get_or (T.numbered P) i (65, T.implied) ≡ (65, T.implied)
   numbered_end i l = M.numbered_end P i (l ∙ sym long)

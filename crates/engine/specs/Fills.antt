@@ -1,22 +1,21 @@
 -- What moves bring to a position, and what the code then holds of it.
-use Rattle.std.specs.Prelude.{◌≡◌, ℕ, ◌+◌, ◌-◌, ◌*◌, ◌%◌, ◌<◌, ◌≤◌, Bool, true, false, List, [], ◌++◌, map, length, drop, Some, None, Option, slice_index, slice_index_or}
+use Rattle.std.specs.Prelude.{◌≡◌, ℕ, ◌+◌, ◌-◌, ◌*◌, ◌%◌, ◌<◌, ◌≤◌, true, false, List, [], ◌++◌, map, length, drop, Ok, Err, Result, vec_items, vec_len, slice_index, slice_index_or}
 use Rattle.topl.specs.Lists.{Class, every, apart}
 use Rattle.topl.specs.Table as T
-use Rattle.topl.specs.Runs.{Configuration, Mode, settled, closed, World, so_far, Registers, Reach, first_configuration, reached, alikeᶜ}
+use Rattle.topl.specs.Runs.{Configuration, World, so_far, Registers, Reach, first_configuration, reached, alikeᶜ}
 use Rattle.topl.specs.Rows.{Stands, Filled}
 use Rattle.topl.specs.Deciding.{any_error, count}
 use Rattle.topl.specs.Theorems.{StepsTo, ErrsBy}
 use Rattle.engine.specs.declared.entry.Entry.{Entry}
 use Rattle.engine.specs.declared.scene.Scene.{Scene}
+use Rattle.engine.specs.declared.grid.Grid as G
 use Rattle.engine.specs.declared.front.Filling.{Filling}
 use Rattle.engine.specs.declared.front.Filling.TheVariants.{Broken, Spilled, Stands as Stands'}
+use Rattle.engine.specs.Modes.{mode_of}
 use Rattle.engine.specs.Views.{statement, sound, Seen}
 use Rattle.engine.specs.Trails.{steps_to, steps_by, room_of}
-use Rattle.engine.specs.Fronts.{row_at, count_at, entries_at, Grid, Room, Others, Spares}
-
-abbrev pub mode_of : Bool → Mode
-mode_of true = closed
-mode_of false = settled
+use Rattle.engine.specs.Fronts.{row_at, count_at, entries_at, Grid, Others, Spares}
+use Rattle.engine.specs.Grids.{grid_of}
 
 -- a scene with sound statements, not more than 64, and six values for each event
 abbrev pub Staged : {V : Type 0} → Scene V → Type 0
@@ -25,7 +24,7 @@ Staged s = (every sound s.statements.now ≡ true) × (length s.statements.now �
 -- the statements of a table, and the events of a world from `base` on, as a scene has them
 pub record Watched {V : Type 0} (class : V → Class) (s : Scene V) (base : ℕ) (P : T.Table) (w : World) : Type 0 where
   pub statements : P.statements ≡ map statement s.statements.now
-  pub mode : w.mode ≡ mode_of s.closed
+  pub mode : w.mode ≡ mode_of s.mode
   pub events : Seen class s.ids.now s.window.now (drop base w.events)
 
 -- each configuration at place `slot` is reached at p by the steps of its entry
@@ -50,23 +49,31 @@ pub record Grows {V : Type 0} (class : V → Class) (cap slot : ℕ) (P : T.Tabl
   pub tracked : Fits slot g h → Tracked class cap P k w p g slot → Tracked class cap P k w p h slot
 
 -- One of these is in `error`, and a run reaches it by a step from an entry; or they came.
-abbrev pub Brought : {V : Type 0} → (V → Class) → ℕ → ℕ → T.Table → Registers → World → ℕ → Grid V → Grid V → List Configuration → Option Entry → Type 0
-Brought class cap slot P k w p g h added (Some x) = (any_error added ≡ true) × ErrsBy P k w p (steps_by h.book x)
-Brought class cap slot P k w p g h added None = (any_error added ≡ false) × Grows class cap slot P k w p g h added
+abbrev pub Brought : {V : Type 0} → (V → Class) → ℕ → ℕ → T.Table → Registers → World → ℕ → Grid V → Grid V → List Configuration → Result (Unit {0}) Entry → Type 0
+Brought class cap slot P k w p g h added (Err x) = (any_error added ≡ true) × ErrsBy P k w p (steps_by h.book x)
+Brought class cap slot P k w p g h added (Ok _) = (any_error added ≡ false) × Grows class cap slot P k w p g h added
 
--- whatever the events are: there is room still, entries only come, other positions keep theirs, and what is told has an entry that counts
-pub record Safe {V : Type 0} (cap slot : ℕ) (g h : Grid V) (r : Option Entry) : Type 0 where
-  pub room : Room cap h
-  pub more : g.used ≤ h.used
+-- the same of the grids of the code
+abbrev pub Tracks : {V : Type 0} → (V → Class) → T.Table → Registers → World → ℕ → G.Grid V → ℕ → Type 0
+Tracks class P k w p g slot = Tracked class g.cap P k w p (grid_of g) slot
+
+abbrev pub Brings : {V : Type 0} → (V → Class) → ℕ → T.Table → Registers → World → ℕ → G.Grid V → G.Grid V → List Configuration → Result (Unit {0}) Entry → Type 0
+Brings class slot P k w p g h added r = Brought class g.cap slot P k w p (grid_of g) (grid_of h) added r
+
+-- whatever the events are: cap, board and book are as large, entries only come, other positions keep theirs, and what is told has an entry that counts
+pub record Safe {V : Type 0} (slot : ℕ) (g h : G.Grid V) (r : Result (Unit {0}) Entry) : Type 0 where
+  pub cap : h.cap ≡ g.cap
+  pub board : vec_len h.board ≡ vec_len g.board
+  pub more : g.book.used ≤ h.book.used
   pub spares : Spares slot g.front h.front
-  pub long : length h.book ≡ length g.book
-  pub known : (x : Entry) → r ≡ Some x → x.parent < h.used
+  pub long : length (vec_items h.book.entries) ≡ length (vec_items g.book.entries)
+  pub known : (x : Entry) → r ≡ Err x → x.parent < h.book.used
 
--- the entry that is told
-abbrev pub first_error : Filling → Option Entry
-first_error (Broken x) = Some x
-first_error Spilled = None
-first_error Stands' = None
+-- what a position that is filled tells
+abbrev pub first_error : Filling → Result (Unit {0}) Entry
+first_error (Broken x) = Err x
+first_error Spilled = Ok tt
+first_error Stands' = Ok tt
 
 -- Position p can be filled: the positions before it stand as they are now, and p as it was before, with no `error`; all of them are reached by their
 -- entries.

@@ -76,7 +76,7 @@ Below used ns = (i : ℕ) → i < length ns → slice_index ns i < used
 -- at most 64 are allowed for, the board has a place for each, no position has more, and the entries of all of them count
 abbrev pub Room : {V : Type 0} → ℕ → Grid V → Type 0
 Room cap g =
-    (cap ≤ 64) × (length g.rows ≡ 40 * cap) × (length g.front.states ≡ 320) × ((k : ℕ) → count_at g.front k ≤ cap) × (length g.front.entries ≡ 320)
+    (cap ≤ 64) × (40 * cap ≤ length g.rows) × (length g.front.states ≡ 320) × ((k : ℕ) → count_at g.front k ≤ cap) × (length g.front.entries ≡ 320)
     × ((k : ℕ) → Below g.used (entries_at g.front k))
 
 -- the other positions have the same configurations
@@ -98,7 +98,6 @@ pub record Comes {V : Type 0} (class : V → Class) (cap : ℕ) (g h : Grid V) (
   pub spares : Spares slot g.front h.front
   pub enters : Enters g.book g.used from h.book h.used entry
   pub spilled : h.front.spilled ≡ g.front.spilled
-  pub room : Room cap h
 
 -- what became of a configuration c that came to a position
 abbrev pub Arrives : {V : Type 0} → (V → Class) → ℕ → Grid V → Grid V → ℕ → Entry → Configuration → A.Arrival → Type 0

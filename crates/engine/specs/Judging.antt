@@ -1,5 +1,5 @@
 -- The deciding rule as the code comes to it.
-use Rattle.std.specs.Prelude.{◌≡◌, ℕ, zero, suc, ◌+◌, ◌-◌, ◌%◌, ◌<◌, ◌≤◌, true, false, List, length, Some, None, Option}
+use Rattle.std.specs.Prelude.{◌≡◌, ℕ, zero, suc, ◌+◌, ◌-◌, ◌%◌, ◌<◌, ◌≤◌, true, false, List, length, Ok, Err, Result}
 use Rattle.topl.specs.Lists.{Class, apart}
 use Rattle.topl.specs.Table as T
 use Rattle.topl.specs.Runs.{Registers, World, so_far, alikeᶜ}
@@ -20,11 +20,11 @@ ruled Spills = D.spills
 ruled Overfills = D.overfills
 ruled GoesOn = D.goes_on
 
-abbrev pub shown_entry : Ruling → Option Entry
-shown_entry (Breaks p x) = Some x
-shown_entry Spills = None
-shown_entry Overfills = None
-shown_entry GoesOn = None
+abbrev pub shown_entry : Ruling → Result (Unit {0}) Entry
+shown_entry (Breaks p x) = Err x
+shown_entry Spills = Ok tt
+shown_entry Overfills = Ok tt
+shown_entry GoesOn = Ok tt
 
 -- where it breaks, the entry shows a run that reaches `error` at the position
 abbrev pub ShowsRun : T.Table → Registers → World → List Entry → Ruling → Type 0

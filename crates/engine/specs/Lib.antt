@@ -1,6 +1,8 @@
 pub mod Views
 pub mod Trails
 pub mod Fronts
+pub mod Grids
+pub mod Modes
 pub mod Fills
 pub mod Properties
 pub mod Meant

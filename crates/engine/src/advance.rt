@@ -7,13 +7,14 @@ ghost use Rattle.topl.specs.Theorems.{Steady, seen as shown};
 ghost use Rattle.engine.specs.declared.front.Ruling.TheVariants.{GoesOn};
 ghost use Rattle.engine.specs.Trails.{room_of};
 ghost use Rattle.engine.specs.Views.{sound, statement};
-ghost use Rattle.engine.specs.States.{Fit, Follows, ComesTo, Stays};
+ghost use Rattle.engine.specs.States.{Follows, ComesTo, Stays};
 
 use crate::front::Ruling;
+use crate::remember::{forget, witness};
+use crate::scene::Mode;
 use crate::settle::settle;
 use crate::state::State;
 use crate::table::Statement;
-use crate::window::{forget, witness};
 use kinds::kind::Kind;
 
 // One event more after so many judged ones: the rows of the positions from judged - 2 to judged + 1 are filled in order.
@@ -24,17 +25,17 @@ pub(crate) fn take_event<K: Kind>(
     id: u32,
     values: &[K::Value],
 ) -> Ruling
-    requires { (every sound statements.now ≡ true) × (length statements.now ≤ 64) × Fit s.old × (judged ≤ 16384) }
+    requires { (every sound statements.now ≡ true) × (length statements.now ≤ 64) × (judged ≤ 16384) }
     ensures stays { Stays s.old s.new result }
     ensures rules { (P : TheTable) (k : Registers) (L : List Happening) → P.statements ≡ map statement statements.now → Lawful P
-        → Steady P k s.old.cap (room_of s.old.book.entries.items) L → judged ≡ length L → Follows K.Kind.class s.old P k L
+        → Steady P k s.old.grid.cap (room_of s.old.grid.book.entries.items) L → judged ≡ length L → Follows K.Kind.class s.old P k L
         → ComesTo s.old s.new P k L (so_far (L ++ shown K.Kind.class id values.now ∷ [])) result
         × (result ≡ GoesOn → Follows K.Kind.class s.new P k (L ++ shown K.Kind.class id values.now ∷ [])) }
 {
     forget::<K>(&mut s.window);
     witness::<K>(&mut s.window, id, values);
-    s.front.clear((judged + 1) % 5);
-    settle::<K>(s, statements, false, judged.saturating_sub(3))
+    s.grid.front.clear((judged + 1) % 5);
+    settle::<K>(s, statements, Mode::Settled, judged.saturating_sub(3))
 }
 
 // The list has ended after so many judged events.
@@ -43,12 +44,12 @@ pub(crate) fn end_list<K: Kind>(
     statements: &[Statement],
     judged: usize,
 ) -> Ruling
-    requires { (every sound statements.now ≡ true) × (length statements.now ≤ 64) × Fit s.old × (judged ≤ 16384) }
+    requires { (every sound statements.now ≡ true) × (length statements.now ≤ 64) × (judged ≤ 16384) }
     ensures stays { Stays s.old s.new result }
     ensures rules { (P : TheTable) (k : Registers) (L : List Happening) → P.statements ≡ map statement statements.now → Lawful P
-        → Steady P k s.old.cap (room_of s.old.book.entries.items) L → judged ≡ length L → Follows K.Kind.class s.old P k L
+        → Steady P k s.old.grid.cap (room_of s.old.grid.book.entries.items) L → judged ≡ length L → Follows K.Kind.class s.old P k L
         → ComesTo s.old s.new P k L (closing L) result }
 {
     forget::<K>(&mut s.window);
-    settle::<K>(s, statements, true, judged.saturating_sub(3))
+    settle::<K>(s, statements, Mode::Closed, judged.saturating_sub(3))
 }

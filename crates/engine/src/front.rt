@@ -21,14 +21,12 @@ pub enum Arrival {
     Spilled,
 }
 
-// The way that moves take: from event `from` of the window, over `distance` events, to the position that has place `slot` of the five and may have
-// `cap` configurations.
+// The way that moves take: from event `from` of the window, over `distance` events, to the position that has place `slot` of the five.
 #[derive(Clone, Copy)]
 pub struct Way {
     pub from: usize,
     pub distance: usize,
     pub slot: usize,
-    pub cap: usize,
 }
 
 // A configuration's state, and its entry in the book.
@@ -77,6 +75,17 @@ impl Front {
         let from = 64 * slot;
         let to = from + self.counts[slot];
         &self.states[from..to]
+    }
+
+    // The state and the entry of configuration i of a position.
+    pub(crate) fn mark_at(&self, slot: usize, i: usize) -> Mark
+        requires { (slot < 5) × (i < 64) × (length self.now.states ≡ 320) × (length self.now.entries ≡ 320) }
+        ensures { result ≡ record { state = slice_index self.now.states (64 * slot + i); entry = slice_index self.now.entries (64 * slot + i) } }
+    {
+        Mark {
+            state: self.states[64 * slot + i],
+            entry: self.entries[64 * slot + i],
+        }
     }
 
     // Takes all configurations from a position.

@@ -1,11 +1,10 @@
 // What the rows hold before the first event.
-ghost use Rattle.std.specs.Prelude.{◌≡◌, ℕ, ◌+◌, ◌*◌, ◌<◌, ◌≤◌, true, List, [], map, length, replicate, vec_len, nat_lt};
+ghost use Rattle.std.specs.Prelude.{◌≡◌, ℕ, ◌*◌, ◌≤◌, true, [], map, length, replicate, vec_len, nat_lt};
 ghost use Rattle.topl.specs.Lists.{every};
 ghost use Rattle.topl.specs.Table.{Table as TheTable};
 ghost use Rattle.topl.specs.Ledger.{sets, initial};
 ghost use Rattle.engine.specs.Trails.{room_of};
-ghost use Rattle.engine.specs.Windows.{Sized};
-ghost use Rattle.engine.specs.States.{Fit, Follows};
+ghost use Rattle.engine.specs.States.{Follows};
 
 use crate::front::Front;
 use crate::row::put_configuration;
@@ -32,22 +31,19 @@ pub(crate) fn open_rows<K: Kind>(
     values: &[K::Value],
     cap: usize,
 )
-    requires { (every (λ r. nat_lt r 8) constants.now ≡ true) × (length constants.now ≡ length values.now) × (1 ≤ cap) × (cap ≤ 64) × (40 * cap ≤ vec_len s.old.board)
-        × (1 ≤ room_of s.old.book.entries.items) × Sized s.old.window }
-    ensures fit { Fit s.new }
-    ensures cap { s.new.cap ≡ cap }
-    ensures board { vec_len s.new.board ≡ vec_len s.old.board }
-    ensures book { s.new.book.entries.items ≡ s.old.book.entries.items }
+    requires { (every (λ r. nat_lt r 8) constants.now ≡ true) × (length constants.now ≡ length values.now) × (1 ≤ cap) × (cap ≤ 64)
+        × (40 * cap ≤ vec_len s.old.grid.board) × (1 ≤ room_of s.old.grid.book.entries.items) }
+    ensures cap { s.new.grid.cap ≡ cap }
+    ensures board { vec_len s.new.grid.board ≡ vec_len s.old.grid.board }
+    ensures book { s.new.grid.book.entries.items ≡ s.old.grid.book.entries.items }
     ensures follows { (P : TheTable) → P.constants ≡ constants.now → Follows K.Kind.class s.new P (initial P (map K.Kind.class values.now)) [] }
 {
     let registers = start_registers::<K>(constants, values);
-    s.cap = cap;
     s.window.seen = 0;
-    s.front = Front::new();
-    s.front.add(0, 0, 0);
-    s.book.begin();
-    let places = 40 * cap;
-    let held = &registers[..];
-    let rows = &mut s.board[0..places];
-    put_configuration(rows, cap, 0, 0, held);
+    let grid = &mut s.grid;
+    grid.cap = cap;
+    grid.front = Front::new();
+    grid.front.add(0, 0, 0);
+    grid.book.begin();
+    put_configuration(&mut grid.board, cap, 0, 0, &registers);
 }

@@ -1,12 +1,13 @@
 // Rows of configurations: states and entries on the front, registers on the board.
-ghost use Rattle.std.specs.Prelude.{◌≡◌, ℕ, ◌+◌, ◌*◌, ◌<◌, ◌≤◌, map, length, take, drop};
+ghost use Rattle.std.specs.Prelude.{◌≡◌, ℕ, ◌+◌, ◌*◌, ◌<◌, ◌≤◌, map, length, take, drop, vec_len};
 ghost use Rattle.topl.specs.Lists.{holds};
 ghost use Rattle.topl.specs.Runs.{alikeᶜ};
-ghost use Rattle.engine.specs.Fronts.{configuration, row, stored, grid, Room, Arrives};
+ghost use Rattle.engine.specs.Fronts.{configuration, row, stored, Arrives};
+ghost use Rattle.engine.specs.Grids.{grid_of};
 
-use crate::book::Book;
 use crate::entry::Entry;
-use crate::front::{Arrival, Front, Way};
+use crate::front::Arrival;
+use crate::grid::Grid;
 use kinds::kind::Kind;
 
 // Does a row hold a configuration, that is one of its state with registers of the same classes?
@@ -44,7 +45,7 @@ pub(crate) fn start(cap: usize, slot: usize) -> usize
 
 // A position's part of the board.
 fn part_of<V: Copy>(rows: &[V], cap: usize, slot: usize) -> &[V]
-    requires { (slot < 5) × (cap ≤ 64) × (length rows.now ≡ 40 * cap) }
+    requires { (slot < 5) × (cap ≤ 64) × (40 * cap ≤ length rows.now) }
     ensures is { result.now ≡ take (8 * cap) (drop (slot * (8 * cap)) rows.now) }
     ensures long { length result.now ≡ 8 * cap }
 {
@@ -72,7 +73,7 @@ pub(crate) fn put_configuration<V: Copy>(
     i: usize,
     registers: &[V],
 )
-    requires { (slot < 5) × (cap ≤ 64) × (length rows.old ≡ 40 * cap) × (i < cap) × (length registers.now ≡ 8) }
+    requires { (slot < 5) × (cap ≤ 64) × (40 * cap ≤ length rows.old) × (i < cap) × (length registers.now ≡ 8) }
     ensures { rows.new ≡ stored rows.old (slot * (8 * cap) + 8 * i) registers.now }
 {
     let from = start(cap, slot);
@@ -81,34 +82,52 @@ pub(crate) fn put_configuration<V: Copy>(
     write_configuration(part, i, registers);
 }
 
+// The registers of configuration i of a position.
+pub(crate) fn registers_at<K: Kind>(
+    rows: &[K::Value],
+    cap: usize,
+    slot: usize,
+    i: usize,
+) -> [K::Value; 8]
+    requires { (slot < 5) × (cap ≤ 64) × (40 * cap ≤ length rows.now) × (i < cap) }
+    ensures are { result ≡ take 8 (drop (8 * i) (drop (slot * (8 * cap)) rows.now)) }
+    ensures eight { length result ≡ 8 }
+{
+    let from = start(cap, slot) + 8 * i;
+    let to = from + 8;
+    let mut held = [K::nothing(); 8];
+    held.copy_from_slice(&rows[from..to]);
+    held
+}
+
 // A configuration comes to a position, by a step from an entry: it is added and entered unless the position holds it, or has `cap` already.
 pub(crate) fn arrive<K: Kind>(
-    front: &mut Front,
-    rows: &mut [K::Value],
-    book: &mut Book,
-    way: Way,
+    grid: &mut Grid<K::Value>,
+    slot: usize,
     from: Entry,
     state: u8,
     registers: &[K::Value],
 ) -> Arrival
-    requires { (way.slot < 5) × Room way.cap (grid front.old rows.old book.old.entries.items book.old.used) × (length registers.now ≡ 8) × (from.parent < book.old.used) }
-    ensures { Arrives K.Kind.class way.cap (grid front.old rows.old book.old.entries.items book.old.used)
-        (grid front.new rows.new book.new.entries.items book.new.used) way.slot from (configuration K.Kind.class state registers.now) result }
+    requires { (slot < 5) × (length registers.now ≡ 8) × (from.parent < grid.old.book.used) }
+    ensures arrives { Arrives K.Kind.class grid.old.cap (grid_of grid.old) (grid_of grid.new) slot from (configuration K.Kind.class state registers.now) result }
+    ensures cap { grid.new.cap ≡ grid.old.cap }
+    ensures board { vec_len grid.new.board ≡ vec_len grid.old.board }
 {
-    let count = front.counts[way.slot];
+    let cap = grid.cap;
+    let count = grid.front.counts[slot];
     if find::<K>(
-        front.states_of(way.slot),
-        part_of(rows, way.cap, way.slot),
+        grid.front.states_of(slot),
+        part_of(&grid.board, cap, slot),
         state,
         registers,
     ) {
         return Arrival::Held;
     }
-    if count >= way.cap {
+    if count >= cap {
         return Arrival::Spilled;
     }
-    let entry = book.enter(from);
-    front.add(way.slot, state, entry);
-    put_configuration(rows, way.cap, way.slot, count, registers);
+    let entry = grid.book.enter(from);
+    grid.front.add(slot, state, entry);
+    put_configuration(&mut grid.board, cap, slot, count, registers);
     Arrival::Added
 }

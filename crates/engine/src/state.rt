@@ -1,17 +1,10 @@
 // What a watch holds of the runs.
-use crate::book::Book;
-use crate::front::Front;
+use crate::grid::Grid;
 use crate::window::Window;
 
-// The board has the registers of the configurations at five positions, whose states and entries stand on the front. `held` and `scratch` are the
-// registers that a move starts from and comes to.
+// The configurations of the last positions, and the last events.
 #[derive(Drop)]
 pub struct State<V> {
-    pub board: Vec<V>,
-    pub book: Book,
-    pub front: Front,
-    pub window: Window<V>,
-    pub held: [V; 8],
-    pub scratch: [V; 8],
-    pub cap: usize,
+    pub(crate) grid: Grid<V>,
+    pub(crate) window: Window<V>,
 }

@@ -1,66 +1,13 @@
-// The last events, as the moves need them.
-ghost use Rattle.std.specs.Prelude.{◌≡◌, ℕ, ◌+◌, ◌-◌, ◌*◌, ◌<◌, ◌≤◌, List, [], ◌∷◌, ◌++◌, length, drop, if◌then◌else◌, slice_index_or};
-ghost use Rattle.topl.specs.Table.{Event as Happening, calls};
-ghost use Rattle.topl.specs.Theorems.{seen as shown, value_places};
-ghost use Rattle.engine.specs.Windows.{Remembers, Sized};
-
-use kinds::kind::Kind;
+// The last events that a watch remembers.
+ghost use Rattle.std.specs.Prelude.{◌≡◌, ◌≤◌, length};
 
 // The ids of at most four events, and the six places of each; the first `seen` count.
 #[derive(Drop)]
 pub struct Window<V> {
-    pub ids: [u32; 4],
-    pub places: [V; 24],
-    pub seen: usize,
-}
-
-// Value i of those that were given, nothing where there are fewer.
-fn value_of<K: Kind>(values: &[K::Value], i: usize) -> K::Value
-    ensures { result ≡ slice_index_or values.now i K.Kind.nothing }
-{
-    values.get(i).copied().unwrap_or(K::nothing())
-}
-
-// What stands at place i of an event: 0 has the returned value, 1 to 5 the parameters.
-fn place_of<K: Kind>(id: u32, values: &[K::Value], i: usize) -> K::Value
-    ensures { result ≡ slice_index_or (if calls id then K.Kind.nothing ∷ values.now else values.now) i K.Kind.nothing }
-{
-    if id % 2 == 1 {
-        value_of::<K>(values, i)
-    } else if i == 0 {
-        K::nothing()
-    } else {
-        value_of::<K>(values, i - 1)
-    }
-}
-
-// Forgets the first of four events: no statement that starts there can wait any more.
-pub(crate) fn forget<K: Kind>(window: &mut Window<K::Value>)
-    requires { (window.old.seen ≤ 4) × Sized window.old }
-    ensures few { window.new.seen ≤ 3 }
-    ensures long { Sized window.new }
-    ensures rest { (L : List Happening) → Remembers K.Kind.class window.old (drop (length L - 4) L) → Remembers K.Kind.class window.new (drop (length L - 3) L) }
-{
-    if window.seen < 4 {
-        return;
-    }
-    window.ids.copy_within(1..4, 0);
-    window.places.copy_within(6..24, 0);
-    window.seen = 3;
-}
-
-// One event more.
-pub(crate) fn witness<K: Kind>(window: &mut Window<K::Value>, id: u32, values: &[K::Value])
-    requires { (window.old.seen ≤ 3) × Sized window.old }
-    ensures more { window.new.seen ≡ window.old.seen + 1 }
-    ensures long { Sized window.new }
-    ensures last { (es : List Happening) → Remembers K.Kind.class window.old es
-        → Remembers K.Kind.class window.new (es ++ shown K.Kind.class id values.now ∷ []) }
-{
-    let at = window.seen;
-    window.ids[at] = id;
-    for i in 0..6 {
-        window.places[6 * at + i] = place_of::<K>(id, values, i);
-    }
-    window.seen = at + 1;
+    pub(crate) ids: [u32; 4],
+    pub(crate) places: [V; 24],
+    pub(crate) seen: usize,
+    ghost four: { length ids ≡ 4 },
+    ghost many: { length places ≡ 24 },
+    ghost few: { seen ≤ 4 },
 }

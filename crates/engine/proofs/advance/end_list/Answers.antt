@@ -1,31 +1,26 @@
 use Rattle.std.proofs.Common.{◌≡◌, ℕ, ◌+◌, ◌-◌, length, drop, sym, refl, ap, ◌∙◌, subst, arith}
 use Rattle.topl.specs.Runs.{closing}
+use Rattle.engine.specs.Grids.{grid_of}
 use Rattle.engine.specs.Judging.{Start}
 use Rattle.engine.specs.Windows.{Remembers}
-use Rattle.engine.specs.States.{grid_of}
 use Rattle.engine.proofs.Starts.{start_close}
 use Rattle.engine.proofs.Advances.{seen_count}
 use Rattle.engine.proofs.advance.end_list.Goals as goal
 
-pub returns : goal.returns
-returns g c =
-    let s = c.args.s.now in
-    let t = c.settle.new.s in
-    let X = c.settle.ensures.lasts in record {
-      stays = record { fit = X.fit; cap = X.cap; board = X.board; book = X.book; known = X.known };
-      rules = λ P k L e N S j F.
-          let class = g.K.Kind.class in
-          let n = length L in
-          let W = c.forget.new.window in
-          let R = c.forget.ensures.rest L F.window in
-          let base : c.saturating_sub.result ≡ n - 3 = c.saturating_sub.ensures ∙ ap (λ (z : ℕ). z - 3) j in
-          let a = c.forget.ensures.few in
-          let count : n - 3 + W.seen ≡ n = seen_count class W L (n - 3) n c.forget.ensures.long.0 (omega arith) (omega arith) refl R in
-          let last : c.saturating_sub.result + W.seen ≡ n = ap (λ (z : ℕ). z + W.seen) base ∙ count in
-          let S₀ = start_close class s.cap (grid_of s) P k L N S F.held F.tracked F.total in
-          let S₁ = subst (λ (z : ℕ). Start class s.cap (grid_of s) z n P k L (closing L)) (sym base) S₀ in
-          let S₂ = subst (λ (z : ℕ). Start class s.cap (grid_of s) c.saturating_sub.result z P k L (closing L)) (sym last) S₁ in
-          let R₁ = subst (λ (z : ℕ). Remembers class W (drop z L)) (sym base) R in
-          let D = c.settle.ensures.decides P k L (closing L) e refl R₁ S₂ in
-          record { rules = D.decides; shown = D.shown };
-    }
+pub returns-clause-rules : goal.returns-clause-rules
+returns-clause-rules g c P k L e N S j F =
+    let class = g.K.Kind.class in
+    let s = c.args.s.now.grid in
+    let n = length L in
+    let W = c.forget.new.window in
+    let R = c.forget.ensures.rest L F.window in
+    let base : c.saturating_sub.result ≡ n - 3 = c.saturating_sub.ensures ∙ ap (λ (z : ℕ). z - 3) j in
+    let a = c.forget.ensures.few in
+    let count : n - 3 + W.seen ≡ n = seen_count class W L (n - 3) n (omega arith) refl R in
+    let last : c.saturating_sub.result + W.seen ≡ n = ap (λ (z : ℕ). z + W.seen) base ∙ count in
+    let S₀ = start_close class s.cap (grid_of s) P k L N S F.held F.tracked F.total in
+    let S₁ = subst (λ (z : ℕ). Start class s.cap (grid_of s) z n P k L (closing L)) (sym base) S₀ in
+    let S₂ = subst (λ (z : ℕ). Start class s.cap (grid_of s) c.saturating_sub.result z P k L (closing L)) (sym last) S₁ in
+    let R₁ = subst (λ (z : ℕ). Remembers class W (drop z L)) (sym base) R in
+    let D = c.settle.ensures.decides P k L (closing L) e refl R₁ S₂ in
+    record { rules = D.decides; shown = D.shown }

@@ -1,60 +1,42 @@
-use Rattle.std.proofs.Common.{◌≡◌, ℕ, suc, ◌+◌, ◌-◌, ◌%◌, [], ◌∷◌, ◌++◌, length, drop, sym, refl, ap, ◌∙◌, subst, arith, length-append, rules}
+use Rattle.std.proofs.Common.{◌≡◌, ℕ, suc, ◌+◌, ◌-◌, ◌%◌, [], ◌∷◌, ◌++◌, length, drop, sym, refl, ap, ◌∙◌, subst, arith, length-append}
 use Rattle.topl.specs.Runs.{so_far}
 use Rattle.topl.specs.Theorems.{seen}
 use Rattle.engine.specs.Fronts.{Cleared}
+use Rattle.engine.specs.Grids.{grid_of}
 use Rattle.engine.specs.Judging.{Start, Decided}
 use Rattle.engine.specs.Windows.{Remembers}
-use Rattle.engine.specs.States.{grid_of}
-use Rattle.engine.proofs.Starts.{cleared, cleared_room, start_feed}
+use Rattle.engine.proofs.Starts.{cleared, start_feed}
 use Rattle.engine.proofs.Advances.{remembers_more, seen_count, follows_on}
 use Rattle.engine.proofs.advance.take_event.Goals as goal
 
-pub settle-requires : goal.settle-requires
-settle-requires g c =
-    let s = c.args.s.now in
-    let F = c.requires.2 in
-    let a = c.forget.ensures.few in
-    let b = c.witness.ensures.more in
-    let d = c.saturating_sub.ensures in (
-      search rules,
-      (
-        c.requires.0,
-        c.requires.1,
-        (omega arith, c.witness.ensures.long, F.2, cleared_room g.K.Kind.class s.cap ((c.args.judged + 1) % 5) (grid_of s) c.clear.new.self c.clear.ensures F.3),
-        omega (arith, c.requires.3),
-      ),
-    )
-
-pub returns : goal.returns
-returns g c =
+pub returns-clause-rules : goal.returns-clause-rules
+returns-clause-rules g c P k L e N S j F =
     let s = c.args.s.now in
     let t = c.settle.new.s in
-    let X = c.settle.ensures.lasts in record {
-      stays = record { fit = X.fit; cap = X.cap; board = X.board; book = X.book; known = X.known };
-      rules = λ P k L e N S j F.
-          let class = g.K.Kind.class in
-          let G = c.clear.new.self in
-          let n = length L in
-          let ev = seen class c.args.id c.args.values.now in
-          let W = c.witness.new.window in
-          let slot : (c.args.judged + 1) % 5 ≡ suc n % 5 = ap (λ (z : ℕ). z % 5) (let z : c.args.judged + 1 ≡ suc n = omega arith in z) in
-          let C = subst (λ (z : ℕ). Cleared s.front G z) slot c.clear.ensures in
-          let R = remembers_more class W L ev (c.witness.ensures.last (drop (n - 3) L) (c.forget.ensures.rest L F.window)) in
-          let base : c.saturating_sub.result ≡ n - 3 = c.saturating_sub.ensures ∙ ap (λ (z : ℕ). z - 3) j in
-          let a = c.forget.ensures.few in
-          let b = c.witness.ensures.more in
-          let m = length-append L (ev ∷ []) in
-          let count : n - 3 + W.seen ≡ suc n = seen_count class W (L ++ ev ∷ []) (n - 3) (suc n) c.witness.ensures.long.0 (omega arith) (omega arith) (omega arith) R in
-          let last : c.saturating_sub.result + W.seen ≡ suc n = ap (λ (z : ℕ). z + W.seen) base ∙ count in
-          let H = cleared class s.cap (suc n % 5) (grid_of s) G C in
-          let S₀ = start_feed class s.cap (grid_of s) P k L N S F.held F.tracked F.total ev G C in
-          let S₁ = subst (λ (z : ℕ). Start class s.cap H z (suc n) P k L (so_far (L ++ ev ∷ []))) (sym base) S₀ in
-          let S₂ = subst (λ (z : ℕ). Start class s.cap H c.saturating_sub.result z P k L (so_far (L ++ ev ∷ []))) (sym last) S₁ in
-          let R₁ = subst (λ (z : ℕ). Remembers class W (drop z (L ++ ev ∷ []))) (sym base) R in
-          let D = c.settle.ensures.decides P k L (so_far (L ++ ev ∷ [])) e refl R₁ S₂ in
-          let D₁ = subst (λ (z : ℕ). Decided class s.cap H (grid_of t) c.saturating_sub.result z P k L (so_far (L ++ ev ∷ [])) c.settle.result) last D in
-          let D₂ = subst (λ (z : ℕ). Decided class s.cap H (grid_of t) z (suc n) P k L (so_far (L ++ ev ∷ [])) c.settle.result) base D₁ in (
-            record { rules = D₂.decides; shown = D₂.shown },
-            follows_on class s t H P k L ev c.settle.result refl D₂ X.cap (subst (λ z. Remembers class z (drop (n - 3) (L ++ ev ∷ []))) (sym X.window) R),
-          );
-    }
+    let X = c.settle.ensures in
+    let cap = s.grid.cap in
+    let class = g.K.Kind.class in
+    let G = c.clear.new.self in
+    let n = length L in
+    let ev = seen class c.args.id c.args.values.now in
+    let W = c.witness.new.window in
+    let slot : (c.args.judged + 1) % 5 ≡ suc n % 5 = ap (λ (z : ℕ). z % 5) (let z : c.args.judged + 1 ≡ suc n = omega arith in z) in
+    let C = subst (λ (z : ℕ). Cleared s.grid.front G z) slot c.clear.ensures in
+    let R = remembers_more class W L ev (c.witness.ensures.last (drop (n - 3) L) (c.forget.ensures.rest L F.window)) in
+    let base : c.saturating_sub.result ≡ n - 3 = c.saturating_sub.ensures ∙ ap (λ (z : ℕ). z - 3) j in
+    let a = c.forget.ensures.few in
+    let b = c.witness.ensures.more in
+    let m = length-append L (ev ∷ []) in
+    let count : n - 3 + W.seen ≡ suc n = seen_count class W (L ++ ev ∷ []) (n - 3) (suc n) (omega arith) (omega arith) R in
+    let last : c.saturating_sub.result + W.seen ≡ suc n = ap (λ (z : ℕ). z + W.seen) base ∙ count in
+    let H = cleared class cap (suc n % 5) (grid_of s.grid) G C in
+    let S₀ = start_feed class cap (grid_of s.grid) P k L N S F.held F.tracked F.total ev G C in
+    let S₁ = subst (λ (z : ℕ). Start class cap H z (suc n) P k L (so_far (L ++ ev ∷ []))) (sym base) S₀ in
+    let S₂ = subst (λ (z : ℕ). Start class cap H c.saturating_sub.result z P k L (so_far (L ++ ev ∷ []))) (sym last) S₁ in
+    let R₁ = subst (λ (z : ℕ). Remembers class W (drop z (L ++ ev ∷ []))) (sym base) R in
+    let D = X.decides P k L (so_far (L ++ ev ∷ [])) e refl R₁ S₂ in
+    let D₁ = subst (λ (z : ℕ). Decided class cap H (grid_of t.grid) c.saturating_sub.result z P k L (so_far (L ++ ev ∷ [])) c.settle.result) last D in
+    let D₂ = subst (λ (z : ℕ). Decided class cap H (grid_of t.grid) z (suc n) P k L (so_far (L ++ ev ∷ [])) c.settle.result) base D₁ in (
+      record { rules = D₂.decides; shown = D₂.shown },
+      follows_on class s t H P k L ev c.settle.result D₂ X.stays.cap (subst (λ z. Remembers class z (drop (n - 3) (L ++ ev ∷ []))) (sym X.window) R),
+    )

@@ -5,6 +5,6 @@ use Rattle.engine.specs.Fronts.{configuration}
 use Rattle.engine.specs.Fills.{Watched}
 use Rattle.engine.proofs.fill.is_quiet.Given as goal
 
-abbrev pub invariant-loop-i : goal.invariant-loop-i
-invariant-loop-i g l = (base : ℕ) (P : Table) (w : World) → Watched g.K.Kind.class l.scene base P w →
-    quiet w (base + l.from) (configuration g.K.Kind.class l.state l.held) (take l.i (numbered P)) ≡ true
+abbrev pub invariant-loop-t : goal.invariant-loop-t
+invariant-loop-t g l = (base : ℕ) (P : Table) (w : World) → Watched g.K.Kind.class l.scene base P w →
+    quiet w (base + l.from) (configuration g.K.Kind.class l.state l.held) (take l.t-index (numbered P)) ≡ true

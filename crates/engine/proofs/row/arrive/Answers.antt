@@ -1,45 +1,68 @@
-use Rattle.std.proofs.Common.{◌<◌, vec_items, sym, refl, ap, ◌∙◌, subst, arith}
+use Rattle.std.proofs.Common.{◌+◌, ◌*◌, ◌<◌, take, drop, vec_items, sym, refl, ap, ◌∙◌, subst, arith}
 use Rattle.topl.specs.Lists.{holds}
 use Rattle.topl.specs.Runs.{alikeᶜ}
-use Rattle.engine.specs.Fronts.{configuration, count_at, grid, Comes}
-use Rattle.engine.proofs.Fronts.{row_part, length_row_at, comes}
+use Rattle.engine.specs.Fronts.{configuration, count_at, grid, Room, Comes}
+use Rattle.engine.specs.Grids.{grid_of}
+use Rattle.engine.proofs.Fronts.{row_part, length_row_at, fits_in, board_put, added_room, comes}
 use Rattle.engine.proofs.row.arrive.Goals as goal
 
 pub find-requires : goal.find-requires
 find-requires g c =
-    let b = c.requires.1.3 c.args.way.slot in
+    let b = c.args.grid.now.room.3 c.args.slot in
     let n = c.states_of.ensures.long in
     let m = c.part_of.ensures.long in
-    (omega arith, c.requires.2)
+    (omega arith, c.requires.1)
 
 pub returns-then-find : goal.returns-then-find
 returns-then-find g c =
     let class = g.K.Kind.class in
-    let b = c.args.book.now in
-    let G = grid c.args.front.now c.args.rows.now (vec_items b.entries) b.used in
-    let e = row_part class c.args.way.cap c.args.way.slot G c.part_of.result.now c.states_of.result.now c.requires.0 c.requires.1 c.states_of.ensures.are c.part_of.ensures.is in
-    (ap (λ z. holds alikeᶜ z (configuration class c.args.state c.args.registers.now)) (sym e) ∙ (sym c.find.ensures ∙ c.if-find.true), refl)
+    let s = c.args.grid.now in
+    let G = grid_of s in
+    let e = row_part class s.cap c.args.slot G c.part_of.result.now c.states_of.result.now c.requires.0 s.room c.states_of.ensures.are (c.part_of.ensures.is ∙ ap (λ z. take (8 * s.cap) (drop (c.args.slot * (8 * s.cap)) z)) c.deref.ensures.value) in
+    record { arrives = (ap (λ z. holds alikeᶜ z (configuration class c.args.state c.args.registers.now)) (sym e) ∙ (sym c.find.ensures ∙ c.if-find.true), refl); cap = refl; board = refl }
 
-pub returns-then-count-way : goal.returns-then-count-way
-returns-then-count-way g c =
+pub returns-then-count-cap : goal.returns-then-count-cap
+returns-then-count-cap g c =
     let class = g.K.Kind.class in
-    let b = c.args.book.now in
-    let G = grid c.args.front.now c.args.rows.now (vec_items b.entries) b.used in
-    let e = row_part class c.args.way.cap c.args.way.slot G c.part_of.result.now c.states_of.result.now c.requires.0 c.requires.1 c.states_of.ensures.are c.part_of.ensures.is in
-    let n = length_row_at class c.args.way.cap c.args.way.slot G c.requires.0 c.requires.1 in
-    let m = c.requires.1.3 c.args.way.slot in
-    (ap (λ z. holds alikeᶜ z (configuration class c.args.state c.args.registers.now)) (sym e) ∙ (sym c.find.ensures ∙ c.if-find.false), omega (arith, c.if-count-way.true), refl)
+    let s = c.args.grid.now in
+    let G = grid_of s in
+    let e = row_part class s.cap c.args.slot G c.part_of.result.now c.states_of.result.now c.requires.0 s.room c.states_of.ensures.are (c.part_of.ensures.is ∙ ap (λ z. take (8 * s.cap) (drop (c.args.slot * (8 * s.cap)) z)) c.deref.ensures.value) in
+    let n = length_row_at class s.cap c.args.slot G c.requires.0 s.room in
+    let m = c.args.grid.now.room.3 c.args.slot in
+    record { arrives = (ap (λ z. holds alikeᶜ z (configuration class c.args.state c.args.registers.now)) (sym e) ∙ (sym c.find.ensures ∙ c.if-find.false), omega (arith, c.if-count-cap.true), refl); cap = refl; board = refl }
 
 pub returns : goal.returns
 returns g c =
     let class = g.K.Kind.class in
-    let b = c.args.book.now in
-    let way = c.args.way in
-    let G = grid c.args.front.now c.args.rows.now (vec_items b.entries) b.used in
+    let s = c.args.grid.now in
+    let slot = c.args.slot in
+    let G = grid_of s in
     let H = c.add.new.self in
-    let b' = c.enter-entry.new.self in
-    let e = row_part class way.cap way.slot G c.part_of.result.now c.states_of.result.now c.requires.0 c.requires.1 c.states_of.ensures.are c.part_of.ensures.is in
-    let l : count_at c.args.front.now way.slot < way.cap = c.if-count-way.false in
-    let u = ap (λ z. holds alikeᶜ z (configuration class c.args.state c.args.registers.now)) (sym e) ∙ (sym c.find.ensures ∙ c.if-find.false) in
-    subst (λ z. Comes class way.cap G (grid H z (vec_items b'.entries) b'.used) way.slot c.args.from (configuration class c.args.state c.args.registers.now)) (sym c.put_configuration.ensures)
-    (comes class way.cap way.slot c.args.state c.enter-entry.result G H c.args.registers.now (vec_items b'.entries) b'.used c.requires.0 c.requires.1 l c.requires.2 c.add.ensures c.args.from c.enter-entry.ensures u)
+    let b = c.enter-entry.new.self in
+    let rs = c.args.registers.now in
+    let e = row_part class s.cap slot G c.part_of.result.now c.states_of.result.now c.requires.0 s.room c.states_of.ensures.are (c.part_of.ensures.is ∙ ap (λ z. take (8 * s.cap) (drop (slot * (8 * s.cap)) z)) c.deref.ensures.value) in
+    let l : count_at s.front slot < s.cap = c.if-count-cap.false in
+    let f = fits_in class s.cap slot c.args.state c.enter-entry.result G H rs (vec_items b.entries) b.used c.requires.0 s.room l c.requires.1 c.add.ensures in
+    let u = ap (λ z. holds alikeᶜ z (configuration class c.args.state rs)) (sym e) ∙ (sym c.find.ensures ∙ c.if-find.false) in record {
+      arrives = subst (λ z. Comes class s.cap G (grid H z (vec_items b.entries) b.used) slot c.args.from (configuration class c.args.state rs))
+          (sym (board_put s.board c.deref_mut.result.now c.put_configuration.new.rows rs (slot * (8 * s.cap) + 8 * count_at s.front slot) c.deref_mut.ensures.value c.put_configuration.ensures f c.requires.1))
+          (comes class s.cap slot c.args.state c.enter-entry.result G H rs (vec_items b.entries) b.used c.requires.0 s.room l c.requires.1 c.add.ensures c.args.from c.enter-entry.ensures u);
+      cap = refl;
+      board = refl;
+    }
+
+pub invariant_of-grid-2 : goal.invariant_of-grid-2
+invariant_of-grid-2 g c =
+    let class = g.K.Kind.class in
+    let s = c.args.grid.now in
+    let slot = c.args.slot in
+    let G = grid_of s in
+    let H = c.add.new.self in
+    let b = c.enter-entry.new.self in
+    let rs = c.args.registers.now in
+    let l : count_at s.front slot < s.cap = c.if-count-cap.false in
+    let f = fits_in class s.cap slot c.args.state c.enter-entry.result G H rs (vec_items b.entries) b.used c.requires.0 s.room l c.requires.1 c.add.ensures in record {
+      room = subst (λ z. Room s.cap (grid H z (vec_items b.entries) b.used))
+          (sym (board_put s.board c.deref_mut.result.now c.put_configuration.new.rows rs (slot * (8 * s.cap) + 8 * count_at s.front slot) c.deref_mut.ensures.value c.put_configuration.ensures f c.requires.1))
+          (added_room class s.cap slot c.args.state c.enter-entry.result G H rs (vec_items b.entries) b.used c.requires.0 s.room l c.requires.1 c.add.ensures c.enter-entry.ensures.more c.enter-entry.ensures.known);
+    }

@@ -10,7 +10,7 @@ pub returns : goal.returns
 returns g c =
     let t = c.args.table.now in
     let P = table (vec_items t.methods) (vec_items t.constants) (vec_items t.statements) in
-    let s = c.args.self.now.state in record {
+    let s = c.args.self.now.state.grid in record {
       stays = c.end_list.ensures.stays;
       rules = λ k L S j F.
           let b = bounded P k s.cap (room_of (vec_items s.book.entries)) L S in

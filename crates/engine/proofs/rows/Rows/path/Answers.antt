@@ -5,10 +5,10 @@ use Rattle.engine.proofs.rows.Rows.path.Goals as goal
 
 pub returns-then-before-page : goal.returns-then-before-page
 returns-then-before-page g c =
-    let ss = steps_to (vec_items c.args.self.now.state.book.entries) c.args.from.parent in
+    let ss = steps_to (vec_items c.args.self.now.state.grid.book.entries) c.args.from.parent in
     (refl, λ _. let z = length-append ss (c.args.from.step ∷ []) in omega (arith, c.depth-before.ensures, c.if-before-page.true))
 
 pub returns : goal.returns
 returns g c =
-    let ss = steps_to (vec_items c.args.self.now.state.book.entries) c.args.from.parent in
+    let ss = steps_to (vec_items c.args.self.now.state.grid.book.entries) c.args.from.parent in
     page_written ss c.args.page.now c.write.new.page c.args.from.step c.depth-before.result c.depth-before.ensures c.if-before-page.false c.write.ensures

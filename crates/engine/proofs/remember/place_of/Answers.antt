@@ -1,7 +1,7 @@
 use Rattle.std.proofs.Common.{◌%◌, cond, ◌∷◌, get_or, sym, ap, ◌∙◌, arith}
 use Rattle.std.proofs.lemmas.Bool.{ne_eqb, eq-eqb}
 use Rattle.engine.proofs.Windows.{get_or_later}
-use Rattle.engine.proofs.window.place_of.Goals as goal
+use Rattle.engine.proofs.remember.place_of.Goals as goal
 
 pub returns-then-id-eq1 : goal.returns-then-id-eq1
 returns-then-id-eq1 g c =

@@ -1,7 +1,7 @@
 use Rattle.std.proofs.Common.{◌≡◌, ◌*◌}
 use lib.Seq.{paste}
 use Rattle.topl.specs.Theorems.{value_places}
-use Rattle.engine.proofs.window.witness.Given as goal
+use Rattle.engine.proofs.remember.witness.Given as goal
 
 abbrev pub invariant-loop-i : goal.invariant-loop-i
 invariant-loop-i g l =

@@ -1,0 +1,15 @@
+// The configurations at five positions, and the book of the steps that reached them.
+ghost use Rattle.engine.specs.Fronts.{grid, Room};
+
+use crate::book::Book;
+use crate::front::Front;
+
+// The board has the registers of the configurations whose states and entries stand on the front; a position may have `cap` of them.
+#[derive(Drop)]
+pub struct Grid<V> {
+    pub(crate) front: Front,
+    pub(crate) board: Vec<V>,
+    pub(crate) book: Book,
+    pub(crate) cap: usize,
+    ghost room: { Room cap (grid front board.items book.entries.items book.used) },
+}
