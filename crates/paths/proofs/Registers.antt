@@ -4,6 +4,7 @@ use Rattle.std.proofs.lemmas.List.{get_or_default}
 use Rattle.std.proofs.lemmas.Bool.{cases_lt, true≢false}
 use Rattle.paths.proofs.Minima.{lesser}
 use Rattle.paths.specs.Reads.{OpenRead, FirstOpen, Variable, FirstOf}
+use Rattle.property.specs.Views.{is_constant}
 use Rattle.property.specs.declared.table.Register.{Register}
 use Rattle.property.specs.declared.table.Statement.{Statement}
 
@@ -18,21 +19,21 @@ module _ (ss : List Statement) (gs : List Register) (i : ℕ) where
   pub first_none : FirstOf ss gs 0 None
   first_none x n h v r = absurd (omega arith)
 
-  pub constant_more : (o : Option ℕ) (d : Register) → i < length gs → (get_or gs i d).constant ≡ true → FirstOf ss gs i o → FirstOf ss gs (i + 1) o
+  pub constant_more : (o : Option ℕ) (d : Register) → i < length gs → is_constant (get_or gs i d) ≡ true → FirstOf ss gs i o → FirstOf ss gs (i + 1) o
   constant_more None d h e f = λ x n l v r. elim (below x l) [
     | inl k ↦ f x n k v r
-    | inr k ↦ true≢false (sym e ∙ subst (λ (y : ℕ). (get_or gs y d).constant ≡ false) k (v.1 d))
+    | inr k ↦ true≢false (sym e ∙ subst (λ (y : ℕ). is_constant (get_or gs y d) ≡ false) k (v.1 d))
   ]
   constant_more (Some n) d h e (a, f) = (
     (a.0, step a.0 a.1, a.2, a.3),
     λ x m l v r. elim (below x l) [
       | inl k ↦ f x m k v r
-      | inr k ↦ absurd (true≢false (sym e ∙ subst (λ (y : ℕ). (get_or gs y d).constant ≡ false) k (v.1 d)))
+      | inr k ↦ absurd (true≢false (sym e ∙ subst (λ (y : ℕ). is_constant (get_or gs y d) ≡ false) k (v.1 d)))
     ],
   )
 
-  pub held : (d : Register) → i < length gs → (get_or gs i d).constant ≡ false → Variable gs i
-  held d h e = (h, λ c. ap (λ (g : Register). g.constant) (get_or_default gs i c d h) ∙ e)
+  pub held : (d : Register) → i < length gs → is_constant (get_or gs i d) ≡ false → Variable gs i
+  held d h e = (h, λ c. ap is_constant (get_or_default gs i c d h) ∙ e)
 
   here : i < i + 1
   here = omega arith

@@ -2,6 +2,7 @@
 use Rattle.std.specs.Prelude.{◌≡◌, ℕ, ◌<◌, ◌≤◌, Bool, false, cond, ◌⊎◌, List, [], ◌∷◌, length, get_or, min, Some, None, Option, ◌==◌, slice_index_or}
 use Rattle.std.specs.List.{filter_map, flat_map, reduce}
 use Rattle.paths.specs.Paths.{slots_of, events_of, event_writes, through, state, Unwritten}
+use Rattle.property.specs.Views.{is_constant}
 use Rattle.property.specs.declared.table.Event.{Event}
 use Rattle.property.specs.declared.table.Pattern.{Pattern}
 use Rattle.property.specs.declared.table.Pattern.TheVariants as patterns
@@ -50,7 +51,7 @@ FirstOpen ss x (Some n) = OpenRead ss x n × ((m : ℕ) → OpenRead ss x m → 
 
 -- A register that holds a variable.
 abbrev pub Variable : List Register → ℕ → Type 0
-Variable gs x = (x < length gs) × ((d : Register) → (get_or gs x d).constant ≡ false)
+Variable gs x = (x < length gs) × ((d : Register) → is_constant (get_or gs x d) ≡ false)
 
 -- Of the first i registers, the answer is the least place at which a variable is read unwritten, or that there is none.
 abbrev pub FirstOf : List Statement → List Register → ℕ → Option ℕ → Type 0

@@ -184,7 +184,7 @@ pub(crate) fn unwritten_read(statements: &[Statement], registers: &[Register]) -
 {
     let mut best: Option<usize> = None;
     for (x, g) in registers.iter().enumerate() {
-        if !g.constant {
+        if let Register::Variable(_) = g {
             best = lesser(best, first_read(statements, x));
         }
     }

@@ -1,5 +1,5 @@
 -- Each way on which the reading of a piece ends.
-use Rattle.std.proofs.Common.{◌≡◌, ℕ, ◌+◌, ◌-◌, ◌<◌, ◌≤◌, Bool, true, false, cond, ◌&&◌, leb, List, [], ◌∷◌, ◌++◌, length, get_or, drop, IsErrAnd, Some, None, Ok, Err, Result, sym, refl, ap, ◌∙◌, subst, append-nil, arith, MatchResult}
+use Rattle.std.proofs.Common.{◌≡◌, ℕ, ◌+◌, ◌-◌, ◌<◌, ◌≤◌, Bool, true, false, cond, List, [], ◌∷◌, ◌++◌, length, get_or, drop, IsErrAnd, Some, None, Ok, Err, Result, sym, refl, ap, ◌∙◌, subst, append-nil, arith, MatchResult}
 use Rattle.std.proofs.lemmas.List.{drop_more, drop_all}
 use Rattle.forms.specs.Bytes.{space, digit, Every}
 use Rattle.forms.specs.Forms.{Refused}
@@ -11,7 +11,6 @@ use Rattle.property.specs.Grammar.{text, bytes, opens, tight_at, ends_at, flaws,
 use Rattle.property.specs.Reads.{Gapped, Lexed, Halts, Finished, Read}
 use Rattle.property.specs.States.{State, moved}
 use Rattle.property.specs.Views.{slice, spelled}
-use Rattle.std.proofs.lemmas.Bool.Decides.{nat_tests}
 use Rattle.kinds.specs.Refusals.{text_number}
 use Rattle.kinds.specs.declared.text_reason.TextReason.{TextReason}
 use Rattle.property.specs.declared.reader.Flaw.{Flaw}
@@ -131,13 +130,6 @@ module _ (t : List ℕ) (p : State) (a f : ℕ) (g : Gapped (tight_at p.cursor.s
         let s3 = subst (λ (k : ℕ). Step (form text p a) (form text (moved p (spelled t n.name) n.byte k) q) (slice t a q) (drop q t)) (sym e1) s2 in
         let s4 = subst (λ (k : ℕ). Step (form text p a) (form text (moved p (spelled t n.name) n.byte n.name.from) k) (slice t a k) (drop k t)) (sym e2) s3 in
         record { low = l; high = h; step = s4 }
-
-inside : (f q n : ℕ) → f ≤ q → q ≤ n → leb f q && leb q n ≡ true
-inside f q n h k = grind (arith, nat_tests)
-
--- A name inside the text.
-pub spelled_slice : (t : List ℕ) (f q : ℕ) → f ≤ q → q ≤ length t → spelled t (record { from = f; to = q }) ≡ slice t f q
-spelled_slice t f q h k = ap (λ (b : Bool). cond b (slice t f q) []) (inside f q (length t) h k)
 
 -- The exit of a `?` at a fault.
 pub out : {T : Type 0} (r : Result T Flaw) (P : T → Type 0) (Q : Flaw → Type 0) (f : Flaw) → IsErrAnd r (λ y. y ≡ f) → Q f → MatchResult r P Q

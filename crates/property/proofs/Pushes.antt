@@ -1,9 +1,8 @@
 -- A property with one thing more.
 use Rattle.std.proofs.Common.{◌≡◌, ℕ, Bool, true, false, cond, List, [], ◌∷◌, ◌++◌, map, sym, ap, ◌∙◌}
 use Rattle.std.proofs.lemmas.List.{map-append}
-use Rattle.property.specs.Moves.{hold, declare}
-use Rattle.property.specs.Moves.{visited}
-use Rattle.property.specs.States.{State, Declared, Key, fresh_other, new_key, with_state, with_register}
+use Rattle.property.specs.Moves.{visit, hold, declare}
+use Rattle.property.specs.States.{State, Declared, Key, fresh_other, new_key, visiting, with_state, with_register}
 use Rattle.property.specs.Views.{spelled, declared, key_of}
 use Rattle.property.specs.declared.cursor.Cursor.{Cursor}
 use Rattle.property.specs.declared.table.Method.{Method}
@@ -17,16 +16,16 @@ module _ (c : Cursor) (n w : List ℕ) (ms : List Declared) (os : List (List ℕ
 
 pub state_pushed : (c : Cursor) (n w : List ℕ) (ms : List Declared) (ks : List Key) (ss : List Statement) (t : List ℕ) (xs ys : List Name) (x : Name)
     → fresh_other (map (spelled t) xs) (spelled t x) ≡ true → ys ≡ xs ++ x ∷ []
-    → whole c n w ms (map (spelled t) ys) ks ss ≡ visited (spelled t x) (whole c n w ms (map (spelled t) xs) ks ss)
+    → whole (visiting (spelled t x) c) n w ms (map (spelled t) ys) ks ss ≡ visit (spelled t x) (whole c n w ms (map (spelled t) xs) ks ss)
 state_pushed c n w ms ks ss t xs ys x f e =
-    ap (λ (zs : List (List ℕ)). whole c n w ms zs ks ss) (ap (map (spelled t)) e ∙ map-append (spelled t) xs (x ∷ []))
-    ∙ sym (ap (λ (b : Bool). record { cursor = c; word = w; sofar = cond b (with_state (spelled t x) (whole c n w ms (map (spelled t) xs) ks ss).sofar) (whole c n w ms (map (spelled t) xs) ks ss).sofar }) f)
+    ap (λ (zs : List (List ℕ)). whole (visiting (spelled t x) c) n w ms zs ks ss) (ap (map (spelled t)) e ∙ map-append (spelled t) xs (x ∷ []))
+    ∙ sym (ap (λ (b : Bool). record { cursor = visiting (spelled t x) c; word = w; sofar = cond b (with_state (spelled t x) (whole c n w ms (map (spelled t) xs) ks ss).sofar) (whole c n w ms (map (spelled t) xs) ks ss).sofar }) f)
 
 pub state_kept : (c : Cursor) (n w : List ℕ) (ms : List Declared) (ks : List Key) (ss : List Statement) (t : List ℕ) (xs : List Name) (x : Name)
     → fresh_other (map (spelled t) xs) (spelled t x) ≡ false
-    → whole c n w ms (map (spelled t) xs) ks ss ≡ visited (spelled t x) (whole c n w ms (map (spelled t) xs) ks ss)
+    → whole (visiting (spelled t x) c) n w ms (map (spelled t) xs) ks ss ≡ visit (spelled t x) (whole c n w ms (map (spelled t) xs) ks ss)
 state_kept c n w ms ks ss t xs x f =
-    sym (ap (λ (b : Bool). record { cursor = c; word = w; sofar = cond b (with_state (spelled t x) (whole c n w ms (map (spelled t) xs) ks ss).sofar) (whole c n w ms (map (spelled t) xs) ks ss).sofar }) f)
+    sym (ap (λ (b : Bool). record { cursor = visiting (spelled t x) c; word = w; sofar = cond b (with_state (spelled t x) (whole c n w ms (map (spelled t) xs) ks ss).sofar) (whole c n w ms (map (spelled t) xs) ks ss).sofar }) f)
 
 pub register_pushed : (c : Cursor) (n w : List ℕ) (ms : List Declared) (os : List (List ℕ)) (ss : List Statement) (t : List ℕ) (xs ys : List Register) (x : Register)
     → new_key (whole c n w ms os (map (key_of t) xs) ss).sofar (key_of t x) ≡ true → ys ≡ xs ++ x ∷ []

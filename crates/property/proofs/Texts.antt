@@ -1,10 +1,14 @@
 -- Parts of a text, by place.
-use Rattle.std.proofs.Common.{◌≡◌, ℕ, zero, suc, ◌+◌, ◌-◌, ◌<◌, ◌≤◌, Bool, true, false, cond, List, [], ◌∷◌, ◌++◌, length, get_or, take, drop, sym, refl, ap, ◌∙◌, inl, inr, append_assoc, arith}
-use Rattle.std.proofs.lemmas.List.{append_cancel_right, take-append-drop, drop-drop, length-take-le, length-drop, get_or-drop, drop_more, drop_all, get_or_past}
+use Rattle.std.proofs.Common.{◌≡◌, ℕ, zero, suc, ◌+◌, ◌-◌, ◌<◌, ◌≤◌, Bool, true, false, cond, not, ◌&&◌, ltb, leb, Some, None, Option, List, [], ◌∷◌, ◌++◌, length, get_or, take, drop, sym, refl, ap, ◌∙◌, inl, inr, append_assoc, arith}
+use Rattle.std.proofs.lemmas.List.{append_cancel_right, take-append-drop, drop-drop, length-take-le, length-drop, get_or-drop, drop_more, drop_all, get_or_past, take_all}
+use Rattle.std.specs.List.{position}
+use Rattle.std.proofs.lemmas.List.Quantifiers.{position-Some}
+use Rattle.std.proofs.lemmas.List.Sums.{fails_before_first}
 use Rattle.std.proofs.lemmas.Bool.{cases_lt}
+use Rattle.std.proofs.lemmas.Bool.Decides.{nat_tests}
 use Rattle.forms.specs.Bytes.{Every, Stops}
 use Rattle.property.specs.Reading.{Passed}
-use Rattle.property.specs.Views.{slice}
+use Rattle.property.specs.Views.{slice, spelled}
 use Rattle.property.specs.Words.{front, past, first_byte}
 
 pub split : (t : List ℕ) (p q : ℕ) → p ≤ q → drop p t ≡ slice t p q ++ drop q t
@@ -70,3 +74,66 @@ first_drop t q = elim (cases_lt q (length t)) [
   | inl h ↦ ap first_byte (drop_more t q 0 h)
   | inr h ↦ ap first_byte (drop_all q t h) ∙ sym (get_or_past t q 0 h)
 ]
+
+inside : (f q n : ℕ) → f ≤ q → q ≤ n → leb f q && leb q n ≡ true
+inside f q n h k = grind (arith, nat_tests)
+
+-- A name inside the text.
+pub spelled_slice : (t : List ℕ) (f q : ℕ) → f ≤ q → q ≤ length t → spelled t (record { from = f; to = q }) ≡ slice t f q
+spelled_slice t f q h k = ap (λ (b : Bool). cond b (slice t f q) []) (inside f q (length t) h k)
+
+whole : (t : List ℕ) (a : ℕ) → take (length t - a) (drop a t) ≡ drop a t
+whole t a = take_all (length t - a) (drop a t) (omega (arith, length-drop a t))
+
+-- Where the class is left first after a place.
+pub passed_to : (c : ℕ → Bool) (t : List ℕ) (a n : ℕ) (r : Option ℕ) → a ≤ length t → r ≡ position (λ b. not (c b)) (take (length t - a) (drop a t)) → r ≡ Some n
+    → Passed c t a (a + n)
+passed_to c t a n r h f g =
+    let e : position (λ b. not (c b)) (drop a t) ≡ Some n = ap (position (λ b. not (c b))) (sym (whole t a)) ∙ (sym f ∙ g) in
+    let p = position-Some (λ b. not (c b)) (drop a t) n 0 e in
+    let l = p.0 in
+    let m : a + n < length t = omega (arith, l, length-drop a t) in
+    let low : a ≤ a + n = omega arith in
+    let high : a + n ≤ length t = omega arith in
+    record {
+      low = low;
+      high = high;
+      every = λ k i j.
+          let x : a + (k - a) ≡ k = omega arith in
+          sym (ap (λ (y : ℕ). c (get_or t y 0)) x) ∙ (sym (ap c (get_or-drop a t (k - a) 0)) ∙ unnot _ (p.2 (k - a) (omega arith)));
+      stops = λ _. sym (ap c (get_or-drop a t n 0)) ∙ unnot' _ p.1;
+    }
+  where
+    unnot : (b : Bool) → not b ≡ false → b ≡ true
+    unnot true e = refl
+    unnot false e = sym e
+
+    unnot' : (b : Bool) → not b ≡ true → b ≡ false
+    unnot' false e = refl
+    unnot' true e = sym e
+
+pub passed_all : (c : ℕ → Bool) (t : List ℕ) (a : ℕ) (r : Option ℕ) → a ≤ length t → r ≡ position (λ b. not (c b)) (take (length t - a) (drop a t)) → r ≡ None
+    → Passed c t a (length t)
+passed_all c t a r h f g =
+    let e : position (λ b. not (c b)) (drop a t) ≡ None = ap (position (λ b. not (c b))) (sym (whole t a)) ∙ (sym f ∙ g) in
+    let low : length t ≤ length t = omega arith in
+    record {
+      low = h;
+      high = low;
+      every = λ k i j.
+          let x : a + (k - a) ≡ k = omega arith in
+          sym (ap (λ (y : ℕ). c (get_or t y 0)) x)
+          ∙ (sym (ap c (get_or-drop a t (k - a) 0))
+          ∙ unnot _ (fails_before_first (λ b. not (c b)) (drop a t) (k - a) 0 (omega (arith, nowhere_left _ _ e, length-drop a t))));
+      stops = λ l. absurd (omega arith);
+    }
+  where
+    unnot : (b : Bool) → not b ≡ false → b ≡ true
+    unnot true e = refl
+    unnot false e = sym e
+
+    nowhere_left : (n m : ℕ) → cond (ltb n m) (Some n) None ≡ None → m ≤ n
+    nowhere_left n m e = elim (cases_lt n m) [
+      | inl l ↦ absurd (let x : ltb n m ≡ true = grind (arith, nat_tests) in let y : ◌≡◌ {A = Option ℕ} (Some n) None = sym (ap (λ (b : Bool). cond b (Some n) None) x) ∙ e in let z : ◌≡◌ {A = ℕ} 0 1 = cc in omega arith)
+      | inr l ↦ l
+    ]

@@ -1,5 +1,5 @@
 -- What the parts of a draft stand for, as names in the text that it reads.
-use Rattle.std.specs.Prelude.{ℕ, ◌-◌, cond, ◌&&◌, List, [], map, length, take, drop, Some, None, vec_items, Option, nat_le}
+use Rattle.std.specs.Prelude.{ℕ, ◌-◌, Bool, true, false, cond, ◌&&◌, List, [], map, length, take, drop, Some, None, vec_items, Option, nat_le}
 use Rattle.kinds.specs.Refusals.{text_number}
 use Rattle.kinds.specs.declared.text_reason.TextReason.{TextReason}
 use Rattle.property.specs.States.{Declared, Key, key, Property, State}
@@ -7,6 +7,7 @@ use Rattle.property.specs.declared.draft.Draft.{Draft}
 use Rattle.property.specs.declared.table.Method.{Method}
 use Rattle.property.specs.declared.table.Name.{Name}
 use Rattle.property.specs.declared.table.Register.{Register}
+use Rattle.property.specs.declared.table.Register.TheVariants as registers
 
 -- The bytes of t from place p up to place q.
 abbrev pub slice : List ℕ → ℕ → ℕ → List ℕ
@@ -19,8 +20,17 @@ spelled t n = cond (nat_le n.from n.to && nat_le n.to (length t)) (slice t n.fro
 abbrev pub declared : List ℕ → Method → Declared
 declared t m = record { name = spelled t m.name; number = m.number; arity = m.arity }
 
+-- Whether a register is a constant's, and the name of it.
+abbrev pub is_constant : Register → Bool
+is_constant (registers.Constant n) = true
+is_constant (registers.Variable n) = false
+
+abbrev pub name_of : Register → Name
+name_of (registers.Constant n) = n
+name_of (registers.Variable n) = n
+
 abbrev pub key_of : List ℕ → Register → Key
-key_of t g = key g.constant (spelled t g.name)
+key_of t g = key (is_constant g) (spelled t (name_of g))
 
 -- The number of a reason, where there is one.
 abbrev pub told : Option TextReason → Option ℕ

@@ -123,11 +123,7 @@ impl Cursor {
     pub(crate) fn fixed(self) -> usize
         ensures { result ≡ one_if self.starts + one_if self.errs }
     {
-        match (self.starts, self.errs) {
-            (true, true) => 2,
-            (false, false) => 0,
-            _ => 1,
-        }
+        usize::from(self.starts) + usize::from(self.errs)
     }
 
     // One more event of the statement is read.

@@ -1,6 +1,15 @@
-// A property as far as its text has been read.
+// A property as far as its text has been read, and searches in it.
+ghost use Rattle.std.specs.Prelude.{◌≡◌, ◌==◌, length, nat_eq, nat_lt, position, find};
+ghost use Rattle.property.specs.Views.{key_of};
+ghost use Rattle.property.specs.States as state;
+ghost use Rattle.property.specs.States.{same_key};
+ghost use Rattle.property.specs.Views.{spelled as spelling};
+ghost use Rattle.property.specs.Views.{view, sofar};
+ghost use Rattle.property.specs.Words as word;
+
 use crate::cursor::*;
 use crate::table::*;
+use crate::words::*;
 
 // The cursor, a name that waits for its use, and the property so far.
 #[derive(Drop)]
@@ -12,4 +21,103 @@ pub struct Draft {
     pub others: Vec<Name>,
     pub registers: Vec<Register>,
     pub statements: Vec<Statement>,
+}
+
+impl Draft {
+    // The place of a state among those besides `start` and `error`.
+    fn other(&self, text: &[u8], w: &[u8]) -> Option<usize>
+        ensures { result ≡ position (λ n. word.same w.now (spelling text.now n)) self.now.others.items }
+    {
+        self.others.iter().position(|n| w == spelled(text, *n))
+    }
+
+    // The method of a name.
+    fn method(&self, text: &[u8], w: &[u8]) -> Option<Method>
+        ensures { result ≡ find (λ m. word.same w.now (spelling text.now m.name)) self.now.methods.items }
+    {
+        self.methods
+            .iter()
+            .find(|m| w == spelled(text, m.name))
+            .copied()
+    }
+
+    // The place of the register of a constant or a variable.
+    fn register(&self, text: &[u8], register: Register) -> Option<usize>
+        ensures { result ≡ position (λ g. same_key (key_of text.now register) (key_of text.now g)) self.now.registers.items }
+    {
+        self.registers.iter().position(|g| register.same(*g, text))
+    }
+
+    // Whether a state is not among those besides `start` and `error`.
+    fn lacks(&self, text: &[u8], w: &[u8]) -> bool
+        ensures { let ws = (sofar text.now self.now).others in result ≡ (word.find (word.same w.now) ws == length ws) }
+    {
+        self.other(text, w).is_none()
+    }
+
+    // Whether a state is neither `start` nor `error` and was not written yet.
+    pub(crate) fn fresh_other(&self, text: &[u8], w: &[u8]) -> bool
+        ensures { result ≡ state.fresh_other (sofar text.now self.now).others w.now }
+    {
+        !is_start(w) && !is_error(w) && self.lacks(text, w)
+    }
+
+    // The number of a state, which is the next one where it was not written yet.
+    pub(crate) fn state_number(&self, text: &[u8], w: &[u8]) -> usize
+        ensures { result ≡ state.state_number (sofar text.now self.now).others w.now }
+    {
+        if is_start(w) {
+            return 0;
+        }
+        if is_error(w) {
+            return 1;
+        }
+        2 + self.other(text, w).unwrap_or(self.others.len()).min(14)
+    }
+
+    // The number and the arity of the method of a name, 0 where none is declared.
+    pub(crate) fn called(&self, text: &[u8], w: &[u8]) -> (u32, usize)
+        ensures { let m = state.method_of (sofar text.now self.now) w.now in (result.0 ≡ m.number) × (result.1 ≡ m.arity) }
+    {
+        match self.method(text, w) {
+            Some(method) => (method.number, method.arity),
+            None => (0, 0),
+        }
+    }
+
+    // Whether a method of the name is declared.
+    pub(crate) fn knows(&self, text: &[u8], w: &[u8]) -> bool
+        ensures { result ≡ nat_lt (state.method_place (sofar text.now self.now) w.now) (length (sofar text.now self.now).methods) }
+    {
+        self.method(text, w).is_some()
+    }
+
+    // Whether a method has the number.
+    pub(crate) fn numbered(&self, text: &[u8], number: u32) -> bool
+        ensures { result ≡ word.some (λ m. nat_eq number m.number) (sofar text.now self.now).methods }
+    {
+        self.methods.iter().any(|m| number == m.number)
+    }
+
+    // The number of the register of a constant or a variable, which is the next one where it has none.
+    pub(crate) fn register_number(&self, text: &[u8], register: Register) -> usize
+        ensures { result ≡ state.register_of (sofar text.now self.now) (key_of text.now register) }
+    {
+        self.register(text, register)
+            .unwrap_or(self.registers.len())
+    }
+
+    // Whether a constant or a variable needs a ninth register.
+    pub(crate) fn ninth(&self, text: &[u8], register: Register) -> bool
+        ensures { result ≡ state.ninth (sofar text.now self.now) (key_of text.now register) }
+    {
+        self.registers.len() >= 8 && self.register(text, register).is_none()
+    }
+
+    // Whether a line declares a method.
+    pub(crate) fn declares(&self, text: &[u8], w: &[u8]) -> bool
+        ensures { result ≡ state.declares (view text.now self.now) w.now }
+    {
+        w == b"method".as_slice() && self.statements.is_empty()
+    }
 }

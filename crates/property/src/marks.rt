@@ -1,5 +1,6 @@
 // The marks of a property text.
 ghost use Rattle.std.specs.Prelude.{◌≡◌};
+ghost use Rattle.forms.specs.Bytes.{capital, letter, small};
 ghost use Rattle.property.specs.Marks.{Means, in_class};
 
 // What a character of a property text is.
@@ -49,6 +50,27 @@ pub fn classify(c: char) -> Mark
     }
 }
 
+// Whether a byte is a capital letter.
+pub(crate) fn is_capital(b: u8) -> bool
+    ensures { result ≡ capital b }
+{
+    matches!(classify(b as char), Mark::Capital)
+}
+
+// Whether a byte is a small letter.
+pub(crate) fn is_small(b: u8) -> bool
+    ensures { result ≡ small b }
+{
+    matches!(classify(b as char), Mark::Small)
+}
+
+// Whether a byte is a letter.
+pub(crate) fn is_letter(b: u8) -> bool
+    ensures { result ≡ letter b }
+{
+    matches!(classify(b as char), Mark::Capital | Mark::Small)
+}
+
 // The bytes that make up one piece of a text.
 #[derive(Clone, Copy)]
 pub enum Class {
@@ -62,11 +84,11 @@ impl Class {
     pub(crate) fn has(self, b: u8) -> bool
         ensures { result ≡ in_class self b }
     {
-        match (self, classify(b as char)) {
-            (Class::Spaces, Mark::Space) => true,
-            (Class::Wordy, Mark::Capital | Mark::Small | Mark::Digit) => true,
-            (Class::Digits, Mark::Digit) => true,
-            _ => false,
-        }
+        matches!(
+            (self, classify(b as char)),
+            (Class::Spaces, Mark::Space)
+                | (Class::Wordy, Mark::Capital | Mark::Small | Mark::Digit)
+                | (Class::Digits, Mark::Digit)
+        )
     }
 }

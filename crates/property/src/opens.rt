@@ -5,26 +5,17 @@ ghost use Rattle.property.specs.Grammar.{head_opens, line_opens, route_opens, pa
 use crate::marks::*;
 use crate::spot::*;
 
-const KEYWORD: [u8; 8] = [b'p', b'r', b'o', b'p', b'e', b'r', b't', b'y'];
+// The word that the first line begins with.
+const KEYWORD: [u8; 8] = *b"property";
 
 // Whether a pattern begins with the byte.
 fn begins_pattern(b: u8) -> bool
     ensures { result ≡ pattern_opens b }
 {
-    match classify(b as char) {
-        Mark::Capital | Mark::Small | Mark::Star | Mark::Bang | Mark::Less => true,
-        _ => false,
-    }
-}
-
-// Whether a name begins with the byte.
-fn begins_name(b: u8) -> bool
-    ensures { result ≡ inner_opens Inner.Quoted b }
-{
-    match classify(b as char) {
-        Mark::Capital | Mark::Small => true,
-        _ => false,
-    }
+    matches!(
+        classify(b as char),
+        Mark::Capital | Mark::Small | Mark::Star | Mark::Bang | Mark::Less
+    )
 }
 
 impl Head {
@@ -36,7 +27,7 @@ impl Head {
             Head::Margin => b == b' ' || b == b'p',
             Head::Keyword => b == KEYWORD[count.min(7)],
             Head::Gap => b == b' ',
-            Head::Title => begins_name(b),
+            Head::Title => is_letter(b),
         }
     }
 }
@@ -46,12 +37,12 @@ impl Line {
     pub(crate) fn opens(self, b: u8) -> bool
         ensures { result ≡ line_opens self b }
     {
-        match (self, classify(b as char)) {
-            (Line::Ending, Mark::Newline) => true,
-            (Line::Fresh | Line::MethodName, Mark::Capital | Mark::Small) => true,
-            (Line::MethodNumber | Line::MethodArity, Mark::Digit) => true,
-            _ => false,
-        }
+        matches!(
+            (self, classify(b as char)),
+            (Line::Ending, Mark::Newline)
+                | (Line::Fresh | Line::MethodName, Mark::Capital | Mark::Small)
+                | (Line::MethodNumber | Line::MethodArity, Mark::Digit)
+        )
     }
 
     // Whether the text may end, where spaces may be left or none.
@@ -60,7 +51,7 @@ impl Line {
     {
         match self {
             Line::Ending => true,
-            Line::Fresh => spaces.len() == 0,
+            Line::Fresh => spaces.is_empty(),
             _ => false,
         }
     }
@@ -71,13 +62,13 @@ impl Route {
     pub(crate) fn opens(self, b: u8) -> bool
         ensures { result ≡ route_opens self b }
     {
-        match (self, classify(b as char)) {
-            (Route::Minus, Mark::Minus) => true,
-            (Route::Greater, Mark::Greater) => true,
-            (Route::Target, Mark::Capital | Mark::Small) => true,
-            (Route::Colon, Mark::Colon) => true,
-            _ => false,
-        }
+        matches!(
+            (self, classify(b as char)),
+            (Route::Minus, Mark::Minus)
+                | (Route::Greater, Mark::Greater)
+                | (Route::Target, Mark::Capital | Mark::Small)
+                | (Route::Colon, Mark::Colon)
+        )
     }
 }
 
@@ -103,10 +94,7 @@ impl Label {
     pub(crate) fn ends(self) -> bool
         ensures { result ≡ label_ends self }
     {
-        match self {
-            Label::Star | Label::End => true,
-            _ => false,
-        }
+        matches!(self, Label::Star | Label::End)
     }
 }
 
@@ -120,7 +108,7 @@ impl Inner {
             (Inner::First, Mark::Close) => true,
             (Inner::First, _) => begins_pattern(b),
             (Inner::Negated, Mark::Small) => true,
-            (Inner::Quoted, _) => begins_name(b),
+            (Inner::Quoted, _) => is_letter(b),
             (Inner::Unquote, Mark::Greater) => true,
             _ => false,
         }
@@ -145,12 +133,12 @@ impl Spot {
     pub(crate) fn tight(self) -> bool
         ensures { result ≡ tight_at self }
     {
-        match self {
-            Spot::Head(Head::Margin | Head::Keyword | Head::Gap) => true,
-            Spot::Route(Route::Greater) => true,
-            Spot::Label(Label::Equals) => true,
-            _ => false,
-        }
+        matches!(
+            self,
+            Spot::Head(Head::Margin | Head::Keyword | Head::Gap)
+                | Spot::Route(Route::Greater)
+                | Spot::Label(Label::Equals)
+        )
     }
 
     // Whether the text may end, where spaces may be left or none.

@@ -8,6 +8,7 @@ ghost use Rattle.property.specs.Views.{view};
 
 use crate::draft::*;
 use crate::marks::*;
+use crate::spot::*;
 use crate::table::*;
 use crate::words::*;
 use kinds::text_reason::TextReason;
@@ -17,6 +18,19 @@ use kinds::text_reason::TextReason;
 pub struct Flaw {
     pub reason: TextReason,
     pub place: usize,
+}
+
+impl Flaw {
+    // What stands at a place fits no form.
+    fn no_form(place: usize) -> Flaw
+        ensures reason { result.reason ≡ TextReason.NoForm }
+        ensures place { result.place ≡ place }
+    {
+        Flaw {
+            reason: TextReason::NoForm,
+            place,
+        }
+    }
 }
 
 // A piece of the text, and its first byte.
@@ -34,12 +48,12 @@ pub struct Reader<'a> {
 }
 
 impl Reader<'_> {
-    // Where the next piece begins.
-    fn start(&self, tight: bool) -> usize
+    // Where the next piece begins at a spot.
+    fn start(&self, spot: Spot) -> usize
         requires { self.now.place ≤ length self.now.text.now }
-        ensures { Gapped tight self.now.text.now self.now.place result }
+        ensures { Gapped (tight_at spot) self.now.text.now self.now.place result }
     {
-        if tight {
+        if spot.tight() {
             return self.place;
         }
         skip(self.text, Class::Spaces, self.place)
@@ -53,15 +67,15 @@ impl Reader<'_> {
         self.text[from] == b'0' && end.saturating_sub(from) > 1
     }
 
-    // Where the piece ends that begins at a place.
-    fn end(&self, tight: bool, from: usize) -> Result<usize, Flaw>
+    // Where the piece ends that begins at a place, at a spot.
+    fn end(&self, spot: Spot, from: usize) -> Result<usize, Flaw>
         requires within { from < length self.now.text.now }
-        requires plain { tight ≡ false → space (slice_index self.now.text.now from) ≡ false }
-        ensures { MatchResult result (λ q. Lexed tight self.now.text.now from q)
-            (λ e. (e.reason ≡ TextReason.NoForm) × (e.place ≡ from + 1) × (tight ≡ false) × (from + 1 < length self.now.text.now)
+        requires plain { tight_at spot ≡ false → space (slice_index self.now.text.now from) ≡ false }
+        ensures { MatchResult result (λ q. Lexed (tight_at spot) self.now.text.now from q)
+            (λ e. (e.reason ≡ TextReason.NoForm) × (e.place ≡ from + 1) × (tight_at spot ≡ false) × (from + 1 < length self.now.text.now)
             × (slice_index self.now.text.now from ≡ 48) × (digit (slice_index self.now.text.now (from + 1)) ≡ true)) }
     {
-        if tight {
+        if spot.tight() {
             return Ok(from + 1);
         }
         if is_letter(self.text[from]) {
@@ -72,10 +86,7 @@ impl Reader<'_> {
         }
         let end = skip(self.text, Class::Digits, from);
         if self.padded(from, end) {
-            return Err(Flaw {
-                reason: TextReason::NoForm,
-                place: from + 1,
-            });
+            return Err(Flaw::no_form(from + 1));
         }
         Ok(end)
     }
@@ -88,16 +99,12 @@ impl Reader<'_> {
             (λ e. Halts (view self.now.text.now draft.now) self.now.text.now self.now.place (text_number e.reason) e.place) }
     {
         let spot = draft.cursor.spot;
-        let from = self.start(spot.tight());
+        let from = self.start(spot);
         if from == self.text.len() {
-            let place = self.place;
-            if spot.ends(&self.text[place..from]) {
+            if spot.ends(&self.text[self.place..from]) {
                 return Ok(None);
             }
-            return Err(Flaw {
-                reason: TextReason::NoForm,
-                place: from,
-            });
+            return Err(Flaw::no_form(from));
         }
         let found = self.piece(draft, from)?;
         Ok(Some(found))
@@ -114,19 +121,17 @@ impl Reader<'_> {
         let spot = draft.cursor.spot;
         let byte = self.text[from];
         if !spot.opens(draft.cursor.count, byte) {
-            return Err(Flaw {
-                reason: TextReason::NoForm,
-                place: from,
-            });
+            return Err(Flaw::no_form(from));
         }
-        let to = self.end(spot.tight(), from)?;
+        let to = self.end(spot, from)?;
         let name = Name { from, to };
-        if let Some(reason) = draft.flaw(self.text, &self.text[from..to], byte, to) {
-            return Err(Flaw {
+        let found = Found { name, byte };
+        match draft.flaw(self.text, found) {
+            Some(reason) => Err(Flaw {
                 reason,
                 place: from,
-            });
+            }),
+            None => Ok(found),
         }
-        Ok(Found { name, byte })
     }
 }

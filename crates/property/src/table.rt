@@ -1,4 +1,6 @@
 // What a property text writes: methods, registers and statements.
+ghost use Rattle.std.specs.Prelude.{◌≡◌};
+ghost use Rattle.property.specs.Views.{name_of};
 
 // A name, by the bytes of the text from one place up to another.
 #[derive(Clone, Copy)]
@@ -15,11 +17,22 @@ pub struct Method {
     pub arity: usize,
 }
 
-// A register: a constant, or a variable, whose first letter is read without its case.
+// A register: of a constant, or of a variable, whose first letter is read without its case.
 #[derive(Clone, Copy)]
-pub struct Register {
-    pub constant: bool,
-    pub name: Name,
+pub enum Register {
+    Constant(Name),
+    Variable(Name),
+}
+
+impl Register {
+    // The name of the constant or the variable.
+    pub(crate) fn name(self) -> Name
+        ensures { result ≡ name_of self }
+    {
+        match self {
+            Register::Constant(name) | Register::Variable(name) => name,
+        }
+    }
 }
 
 // A pattern: any value; any, which it writes; the value of a register; any other than that.

@@ -16,7 +16,16 @@ use crate::reader::*;
 use crate::table::*;
 use forms::finding::Finding;
 use kinds::text_reason::TextReason;
-use std::alloc::Global;
+use std::alloc::{AllocError, Global};
+
+// How many bytes a text may have.
+const LIMIT: usize = 8192;
+
+// The fault of a text with a byte too many.
+const TOO_LONG: Flaw = Flaw {
+    reason: TextReason::TooMuch,
+    place: LIMIT,
+};
 
 // Why a text gives no draft: a fault of the text, or want of memory.
 #[derive(Clone, Copy)]
@@ -33,10 +42,10 @@ impl From<Flaw> for Failure {
     }
 }
 
-impl From<Short> for Failure {
+impl From<AllocError> for Failure {
     ghost from_gives = { λ _ y. y ≡ Memory };
 
-    fn from(_s: Short) -> Failure {
+    fn from(_e: AllocError) -> Failure {
         Failure::Memory
     }
 }
@@ -70,24 +79,14 @@ fn routed(statements: &[Statement]) -> bool
 fn leaves_start(statements: &[Statement]) -> bool
     ensures { result ≡ some (λ s. nat_eq s.source 0) statements.now }
 {
-    for s in statements {
-        if s.source == 0 {
-            return true;
-        }
-    }
-    false
+    statements.iter().any(|s| s.source == 0)
 }
 
 // Whether some statement leads to `error`.
 fn reaches_error(statements: &[Statement]) -> bool
     ensures { result ≡ some (λ s. nat_eq s.target 1) statements.now }
 {
-    for s in statements {
-        if s.target == 1 {
-            return true;
-        }
-    }
-    false
+    statements.iter().any(|s| s.target == 1)
 }
 
 // The draft of a text of any length, or why there is none.
@@ -97,17 +96,29 @@ fn read_any(heap: Global, text: &[u8]) -> Result<Draft, Failure>
     let mut draft = Draft::new(heap);
     let mut reader = Reader { text, place: 0 };
     while let Some(found) = reader.next(&draft)? {
-        draft.advance(text, found.name, found.byte)?;
+        draft.advance(text, found)?;
         reader.place = found.name.to;
     }
     draft.close(text)?;
     if !routed(draft.statements.as_slice()) {
+        let place = text.len();
         return Err(Failure::At(Flaw {
             reason: TextReason::NoRoute,
-            place: text.len(),
+            place,
         }));
     }
     Ok(draft)
+}
+
+impl From<Flaw> for Finding {
+    ghost from_gives = { λ x y. (y.number ≡ text_number x.reason) × (y.place ≡ x.place) };
+
+    fn from(f: Flaw) -> Finding {
+        Finding {
+            number: f.reason.number(),
+            place: f.place,
+        }
+    }
 }
 
 impl Flaw {
@@ -115,14 +126,7 @@ impl Flaw {
     fn before_limit(self) -> bool
         ensures { Decides result (Before (text_number self.reason) self.place 11 8192) }
     {
-        let fault = Finding {
-            number: self.reason.number(),
-            place: self.place,
-        };
-        fault.before(Finding {
-            number: 11,
-            place: 8192,
-        })
+        Finding::from(self).before(Finding::from(TOO_LONG))
     }
 }
 
@@ -130,26 +134,12 @@ impl Flaw {
 fn read_draft(heap: Global, text: &[u8]) -> Result<Draft, Failure>
     ensures { MatchResult result (λ d. Accepted property_text text.now (sofar text.now d)) (λ e. ExplainsBounded text.now e) }
 {
-    let fault = Flaw {
-        reason: TextReason::TooMuch,
-        place: 8192,
-    };
     match read_any(heap, text) {
-        Ok(draft) => {
-            if text.len() > 8192 {
-                return Err(Failure::At(fault));
-            }
-            Ok(draft)
+        Ok(_) if text.len() > LIMIT => Err(Failure::At(TOO_LONG)),
+        Err(Failure::At(f)) if text.len() > LIMIT && !f.before_limit() => {
+            Err(Failure::At(TOO_LONG))
         }
-        Err(e) => match e {
-            Failure::At(f) => {
-                if text.len() > 8192 && !f.before_limit() {
-                    return Err(Failure::At(fault));
-                }
-                Err(Failure::At(f))
-            }
-            Failure::Memory => Err(Failure::Memory),
-        },
+        found => found,
     }
 }
 
@@ -158,11 +148,6 @@ pub fn read(heap: Global, text: &[u8], draft: &mut Draft) -> Result<(), Failure>
     ensures { MatchResult result (λ _. Accepted property_text text.now (sofar text.now draft.new))
         (λ e. ExplainsBounded text.now e × (draft.new ≡ draft.old)) }
 {
-    match read_draft(heap, text) {
-        Ok(d) => {
-            *draft = d;
-            Ok(())
-        }
-        Err(e) => Err(e),
-    }
+    *draft = read_draft(heap, text)?;
+    Ok(())
 }

@@ -9,5 +9,5 @@ pub returns : goal.returns
 returns c =
     let t = c.args.text.now in
     IfOk-weaker c.pattern.result _ _ (λ x e.
-    e ∙ ap (λ (u : Cursor). begins (spelled t c.args.name) c.args.byte c.args.name.from (at u (view t c.args.self.now))) c.labelled-self.ensures)
+    e ∙ ap (λ (u : Cursor). begins (spelled t c.args.found.name) c.args.found.byte c.args.found.name.from (at u (view t c.args.self.now))) c.labelled-self.ensures)
     c.pattern.ensures

@@ -1,4 +1,4 @@
-use Rattle.std.proofs.Common.{◌+◌, ◌<◌, ◌≤◌, Bool, length, get_or, sym, refl, ◌∙◌, subst, arith}
+use Rattle.std.proofs.Common.{◌+◌, ◌<◌, ◌≤◌, Bool, length, get_or, sym, ◌∙◌, subst, arith}
 use Rattle.property.specs.Reads.{Lexed}
 use Rattle.property.proofs.Readings.{lexed_byte, lexed_word, lexed_number, lexed_mark, not_padded, padded_zero, wordless, longer}
 use Rattle.property.proofs.reader.Reader.end.Goals as goal
@@ -7,21 +7,21 @@ pub returns-then-tight : goal.returns-then-tight
 returns-then-tight c =
     let t = c.args.self.now.text.now in
     let f = c.args.from in
-    subst (λ (b : Bool). Lexed b t f (f + 1)) (sym c.if-tight.true) (lexed_byte t f c.requires.within)
+    subst (λ (b : Bool). Lexed b t f (f + 1)) (sym (sym c.tight.ensures ∙ c.if-tight.true)) (lexed_byte t f c.requires.within)
 
 pub returns-then-is_letter : goal.returns-then-is_letter
 returns-then-is_letter c =
     let t = c.args.self.now.text.now in
     let f = c.args.from in
-    subst (λ (b : Bool). Lexed b t f c.skip.result) (sym c.if-tight.false)
+    subst (λ (b : Bool). Lexed b t f c.skip.result) (sym (sym c.tight.ensures ∙ c.if-tight.false))
     (lexed_word t f c.skip.result c.skip.ensures c.requires.within (sym c.is_letter.ensures ∙ c.if-is_letter.true))
 
 pub returns-then-not-has : goal.returns-then-not-has
 returns-then-not-has c =
     let t = c.args.self.now.text.now in
     let f = c.args.from in
-    subst (λ (b : Bool). Lexed b t f (f + 1)) (sym c.if-tight.false)
-    (lexed_mark t f c.requires.within (c.requires.plain c.if-tight.false)
+    subst (λ (b : Bool). Lexed b t f (f + 1)) (sym (sym c.tight.ensures ∙ c.if-tight.false))
+    (lexed_mark t f c.requires.within (c.requires.plain (sym c.tight.ensures ∙ c.if-tight.false))
     (wordless (get_or t f 0) (sym c.is_letter.ensures ∙ c.if-is_letter.false) (sym c.has.ensures ∙ c.if-not-has.true)))
 
 pub returns-then-padded : goal.returns-then-padded
@@ -35,7 +35,7 @@ returns-then-padded c =
     let z1 = z.1 in
     let h = x.high in
     let m : f + 1 < length t = omega arith in
-    (refl, refl, c.if-tight.false, m, z.0, x.every (f + 1) l z.1)
+    (c.no_form.ensures.reason, c.no_form.ensures.place, sym c.tight.ensures ∙ c.if-tight.false, m, z.0, x.every (f + 1) l z.1)
 
 pub returns : goal.returns
 returns c =
@@ -43,6 +43,6 @@ returns c =
     let f = c.args.from in
     let q = c.skip-end.result in
     let d = sym c.has.ensures ∙ c.if-not-has.false in
-    subst (λ (b : Bool). Lexed b t f q) (sym c.if-tight.false)
+    subst (λ (b : Bool). Lexed b t f q) (sym (sym c.tight.ensures ∙ c.if-tight.false))
     (lexed_number t f q c.skip-end.ensures c.requires.within d
     (not_padded (get_or t f 0) f q (longer _ t f q c.skip-end.ensures c.requires.within d) (sym c.padded.ensures ∙ c.if-padded.false)))

@@ -1,7 +1,7 @@
-use Rattle.std.proofs.Common.{Bool, sym, ◌∙◌, subst, arith}
-use Rattle.property.specs.Reads.{Gapped}
+use Rattle.std.proofs.Common.{sym, ◌∙◌, arith}
+use Rattle.kinds.specs.declared.text_reason.TextReason.TheVariants as reasons
 use Rattle.property.specs.Views.{view}
-use Rattle.property.proofs.Exits.{finished, broken, out}
+use Rattle.property.proofs.Exits.{finished, broken, out, at_flaw}
 use Rattle.property.proofs.reader.Reader.next.Goals as goal
 
 pub returns-then-ends : goal.returns-then-ends
@@ -9,7 +9,7 @@ returns-then-ends c =
     let t = c.args.self.now.text.now in
     let a = c.args.self.now.place in
     let f = c.start-from.result in
-    finished t (view t c.args.draft.now) a f (subst (λ (b : Bool). Gapped b t a f) c.tight.ensures c.start-from.ensures) c.if-from-self.true
+    finished t (view t c.args.draft.now) a f c.start-from.ensures c.if-from-self.true
     (sym c.ends.ensures ∙ c.if-ends.true)
 
 pub returns-then-from-self : goal.returns-then-from-self
@@ -17,8 +17,9 @@ returns-then-from-self c =
     let t = c.args.self.now.text.now in
     let a = c.args.self.now.place in
     let f = c.start-from.result in
-    broken t (view t c.args.draft.now) a f (subst (λ (b : Bool). Gapped b t a f) c.tight.ensures c.start-from.ensures) c.if-from-self.true
-    (sym c.ends.ensures ∙ c.if-ends.false)
+    let p = view t c.args.draft.now in
+    at_flaw p t a c.no_form.result reasons.NoForm f c.no_form.ensures.reason c.no_form.ensures.place
+    (broken t p a f c.start-from.ensures c.if-from-self.true (sym c.ends.ensures ∙ c.if-ends.false))
 
 pub piece-requires : goal.piece-requires
 piece-requires c =
@@ -26,7 +27,7 @@ piece-requires c =
     let a = c.args.self.now.place in
     let f = c.start-from.result in
     let h = c.start-from.ensures.high in
-    record { gap = subst (λ (b : Bool). Gapped b t a f) c.tight.ensures c.start-from.ensures; within = omega (arith, h, c.if-from-self.false) }
+    record { gap = c.start-from.ensures; within = omega (arith, h, c.if-from-self.false) }
 
 pub returns-in_err-found : goal.returns-in_err-found
 returns-in_err-found c = out _ _ _ c.in_err-found.field-0.0 c.from_residual.ensures.1 c.in_err-found.ensures

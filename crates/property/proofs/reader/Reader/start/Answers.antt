@@ -1,14 +1,14 @@
-use Rattle.std.proofs.Common.{Bool, sym, subst}
+use Rattle.std.proofs.Common.{Bool, sym, ◌∙◌, subst}
 use Rattle.property.specs.Reads.{Gapped}
 use Rattle.property.proofs.Readings.{gap_tight, gap_loose}
 use Rattle.property.proofs.reader.Reader.start.Goals as goal
 
 pub returns-then-tight : goal.returns-then-tight
 returns-then-tight c =
-    subst (λ (b : Bool). Gapped b c.args.self.now.text.now c.args.self.now.place c.args.self.now.place) (sym c.if-tight.true)
+    subst (λ (b : Bool). Gapped b c.args.self.now.text.now c.args.self.now.place c.args.self.now.place) (sym (sym c.tight.ensures ∙ c.if-tight.true))
     (gap_tight c.args.self.now.text.now c.args.self.now.place c.requires)
 
 pub returns : goal.returns
 returns c =
-    subst (λ (b : Bool). Gapped b c.args.self.now.text.now c.args.self.now.place c.skip.result) (sym c.if-tight.false)
+    subst (λ (b : Bool). Gapped b c.args.self.now.text.now c.args.self.now.place c.skip.result) (sym (sym c.tight.ensures ∙ c.if-tight.false))
     (gap_loose c.args.self.now.text.now c.args.self.now.place c.skip.result c.skip.ensures)

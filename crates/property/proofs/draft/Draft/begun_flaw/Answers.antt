@@ -1,0 +1,17 @@
+use Rattle.std.proofs.Common.{◌≡◌, ℕ, ◌≤◌, true, leb, drop, ap, ◌∙◌, arith}
+use Rattle.std.proofs.lemmas.Bool.Decides.{nat_tests}
+use Rattle.property.specs.Grammar.{worst, begun_flaws}
+use Rattle.property.specs.Views.{view, spelled}
+use Rattle.property.proofs.draft.Draft.begun_flaw.Goals as goal
+
+past : (n : ℕ) → 3 ≤ n → true ≡ leb 3 n
+past n h = grind (arith, nat_tests)
+
+pub returns-then-self-ge3 : goal.returns-then-self-ge3
+returns-then-self-ge3 c =
+    let t = c.args.text.now in
+    let p = view t c.args.self.now in
+    let r = drop c.args.found.name.to t in
+    c.late_flaw.ensures p r
+    ∙ (ap (λ w. worst (begun_flaws true p w c.args.found.byte r)) c.spelled.ensures
+    ∙ ap (λ b. worst (begun_flaws b p (spelled t c.args.found.name) c.args.found.byte r)) (past p.cursor.statement.span c.if-self-ge3.true))
