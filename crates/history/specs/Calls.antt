@@ -1,6 +1,6 @@
 -- What the code's calls and answers are to the ledger.
 use Rattle.std.specs.Prelude.{List, [], ◌∷◌, map, vec_items}
-use Rattle.kinds.specs.declared.refusal.Ending.{Ending}
+use Rattle.kinds.specs.Refusals.{Ending}
 use Rattle.topl.specs.Lists.{Class}
 use Rattle.topl.specs.Theorems.{seen}
 use Rattle.topl.specs.Ledger as L

@@ -1,9 +1,8 @@
 -- What making a watch and a begin do to the ledger that it shows.
-use Rattle.std.proofs.Common.{◌≡◌, ℕ, ◌+◌, ◌*◌, ◌<◌, ◌≤◌, true, false, List, map, length, Some, None, vec_items, vec_len, Option, sym, refl, ap, ◌∙◌, subst, arith, Bor}
+use Rattle.std.proofs.Common.{◌≡◌, ℕ, ◌+◌, ◌*◌, ◌<◌, ◌≤◌, true, false, List, map, length, Some, None, vec_items, vec_len, sym, refl, ap, ◌∙◌, subst, arith, Bor}
 use Rattle.std.proofs.lemmas.List.{length-map}
-use Rattle.kinds.specs.declared.phase.Phase.TheVariants.{Blank, Running}
+use Rattle.kinds.specs.declared.phase.Phase.TheVariants as phases
 use Rattle.kinds.specs.declared.refusal.Layer.TheVariants.{Watch}
-use Rattle.kinds.specs.declared.refusal.Reason.{Reason}
 use Rattle.kinds.specs.declared.refusal.Refusal.{Refusal}
 use Rattle.topl.specs.Lists.{Class}
 use Rattle.topl.specs.Table as T
@@ -18,16 +17,22 @@ use Rattle.engine.specs.Meant.{meant}
 use Rattle.engine.specs.declared.state.State.{State}
 use Rattle.engine.specs.Opening.{Opens}
 use Rattle.watch.specs.declared.held.Held.{Held}
-use Rattle.watch.specs.Turning.{in_phase}
-use Rattle.watch.specs.Shows.{Shows}
+use Rattle.watch.specs.declared.held.Stage.{Stage}
+use Rattle.watch.specs.declared.held.Stage.TheVariants.{Blank, Running}
+use Rattle.watch.specs.Stages.{phase_of}
+use Rattle.watch.specs.Turning.{in_stage}
+use Rattle.watch.specs.Shows.{Agrees}
 use Rattle.watch.proofs.Asking.{refusal_is}
 
 empty_lawful : T.Lawful T.empty_table
 empty_lawful = (tested T.empty_table).0 refl
 
+lent_same : (x y : Bor Table) → ◌≡◌ {A = Stage} (Running x) (Running y) → meant x.now ≡ meant y.now
+lent_same x y e = let same : x ≡ y = cc in ap (λ (z : Bor Table). meant z.now) same
+
 -- a new watch shows the fresh ledger
 pub made : {V : Type 0} (class : V → Class) (s : State V) (board book : ℕ) → vec_len s.board ≡ board → length (vec_items s.book.entries) ≡ book →
-    Shows class None s (record { phase = Blank; judged = 0; position = None; shown = record { parent = 0; step = 0 } }) (fresh board book)
+    Agrees class s (record { stage = Blank; judged = 0 }) (fresh board book)
 made class s board book a b = record {
   phase = refl;
   count = refl;
@@ -36,26 +41,26 @@ made class s board book a b = record {
   book = b;
   sound = lasting.fresh_sound board book;
   lawful = empty_lawful;
-  lent = λ e. absurd (let z : ◌≡◌ {A = ℕ} 0 1 = cc in omega arith);
+  lent = λ x e. absurd (let z : ◌≡◌ {A = ℕ} 0 1 = cc in omega arith);
   cap = λ e. absurd (let z : ◌≡◌ {A = ℕ} 0 1 = cc in omega arith);
   follows = λ e. absurd (let z : ◌≡◌ {A = ℕ} 0 1 = cc in omega arith);
-  known = λ e. absurd (let z : ◌≡◌ {A = ℕ} 0 1 = cc in omega arith);
-  shown = λ e. absurd (let z : ◌≡◌ {A = ℕ} 0 1 = cc in omega arith);
+  known = λ b e. absurd (let z : ◌≡◌ {A = ℕ} 0 1 = cc in omega arith);
+  shown = λ b e. absurd (let z : ◌≡◌ {A = ℕ} 0 1 = cc in omega arith);
 }
 
-module _ {V : Type 0} (class : V → Class) (table : Option (Bor Table)) (s : State V) (h : Held) (l : Ledger) (sh : Shows class table s h l) where
-  pub reasons_same : (P : T.Table) (values : List V) (board book given wanted cap : ℕ) → board ≡ vec_len s.board → book ≡ length (vec_items s.book.entries) →
-      given ≡ length values → wanted ≡ length P.constants → opening_reason h.phase board book given wanted cap ≡ begin_reason l P (map class values) cap
-  reasons_same P values board book given wanted cap a b g w =
-      λ j. opening_reason (sh.phase j) ((a ∙ sh.board) j) ((b ∙ sh.book) j) ((g ∙ sym (length-map values class)) j) (w j) cap
+module _ {V : Type 0} (class : V → Class) (s : State V) (h : Held) (l : Ledger) (sh : Agrees class s h l) where
+  pub reasons_same : (P : T.Table) (values : List V) (given wanted cap : ℕ) → given ≡ length values → wanted ≡ length P.constants →
+      opening_reason (phase_of h.stage) (vec_len s.board) (length (vec_items s.book.entries)) given wanted cap ≡ begin_reason l P (map class values) cap
+  reasons_same P values given wanted cap g w =
+      λ j. opening_reason (sh.phase j) (sh.board j) (sh.book j) ((g ∙ sym (length-map values class)) j) (w j) cap
 
-  pub begin_refused : (P : T.Table) (ks : List Class) (cap : ℕ) (n : Reason) (f : Refusal) → begin_reason l P ks cap ≡ Some n → f ≡ record { layer = Watch; reason = n; place = h.judged } →
-      (m : Ledger) × Shows class table s h m × Begins l P ks cap (m, refused f)
-  begin_refused P ks cap n f e r =
-      (l, sh, subst (λ (g : Refusal). Begins l P ks cap (l, refused g)) (sym (refusal_is class table s h l sh f n r)) (begins_refused l P ks cap n e))
+  pub begin_refused : (P : T.Table) (ks : List Class) (cap : ℕ) (f : Refusal) → begin_reason l P ks cap ≡ Some f.reason → f ≡ record { layer = Watch; reason = f.reason; place = h.judged } →
+      Begins l P ks cap (l, refused f)
+  begin_refused P ks cap f e r =
+      subst (λ (g : Refusal). Begins l P ks cap (l, refused g)) (sym (refusal_is class s h l sh f f.reason r)) (begins_refused l P ks cap f.reason e)
 
   module _ (x : Bor Table) (values : List V) (cap : ℕ) (free : begin_reason l (meant x.now) (map class values) cap ≡ None) where
-    fits : (l.phase ≡ Blank) × (((0 < cap) × (cap ≤ 64)) × ((length (map class values) ≡ length (meant x.now).constants) × ((40 * cap + 64 ≤ l.board) × (0 < l.book))))
+    fits : (l.phase ≡ phases.Blank) × (((0 < cap) × (cap ≤ 64)) × ((length (map class values) ≡ length (meant x.now).constants) × ((40 * cap + 64 ≤ l.board) × (0 < l.book))))
     fits = (refusing.0 l.phase l.board l.book (length (map class values)) (length (meant x.now).constants) cap).is_none.0 free
 
     pub begin_suits : (t : State V) → Opens class s t (meant x.now) values cap false → ⊥
@@ -67,26 +72,26 @@ module _ {V : Type 0} (class : V → Class) (table : Option (Bor Table)) (s : St
         o.1 (omega (arith, f.1.0.0), f.1.0.1, sym f.1.1.0 ∙ a, omega (arith, f.1.1.1.0), omega (arith, f.1.1.1.1))
 
     pub begin_runs : (t : State V) → T.Lawful (meant x.now) → Opens class s t (meant x.now) values cap true →
-        (m : Ledger) × Shows class (Some x) t (in_phase Running h) m × Begins l (meant x.now) (map class values) cap (m, begun)
+        (m : Ledger) × Agrees class t (in_stage (Running x) h) m × Begins l (meant x.now) (map class values) cap (m, begun)
     begin_runs t law o =
         let P = meant x.now in
         let ks = map class values in
         let B = begins_begun l P ks cap free in
-        let S : Means l Blank = subst (Means l) fits.0 sh.sound in (
+        let S : Means l phases.Blank = subst (Means l) fits.0 sh.sound in (
           began l P ks cap,
           record {
             phase = refl;
             count = sh.count ∙ ap length S.1;
-            position = sh.position ∙ S.0;
+            position = refl;
             board = o.1 ∙ sh.board;
             book = ap length o.2 ∙ sh.book;
             sound = lasting.begin_sound l P ks cap (began l P ks cap, begun) sh.sound B;
             lawful = law;
-            lent = λ e. refl;
+            lent = λ y e. lent_same x y e;
             cap = λ e. o.0;
             follows = λ e. o.3;
-            known = λ e. absurd (let z : ◌≡◌ {A = ℕ} 0 1 = cc in omega arith);
-            shown = λ e. absurd (let z : ◌≡◌ {A = ℕ} 0 1 = cc in omega arith);
+            known = λ b e. absurd (let z : ◌≡◌ {A = ℕ} 0 1 = cc in omega arith);
+            shown = λ b e. absurd (let z : ◌≡◌ {A = ℕ} 0 1 = cc in omega arith);
           },
           B,
         )

@@ -1,7 +1,6 @@
 -- What a feed and a close that the deciding rule settles do to the ledger that a watch shows.
-use Rattle.std.proofs.Common.{◌≡◌, ℕ, ◌<◌, min, List, [], ◌∷◌, ◌++◌, length, Some, None, Ok, vec_items, Option, Result, sym, refl, ap, ◌∙◌, subst, arith, length-append, Bor}
-use Rattle.kinds.specs.declared.phase.Phase.{Phase}
-use Rattle.kinds.specs.declared.phase.Phase.TheVariants.{Running, Broken, Spilled, Full, Kept}
+use Rattle.std.proofs.Common.{◌≡◌, ℕ, ◌<◌, min, List, [], ◌∷◌, ◌++◌, length, Some, None, Ok, vec_items, Result, sym, refl, ap, ◌∙◌, subst, arith, length-append, Bor}
+use Rattle.kinds.specs.declared.phase.Phase.TheVariants as phases
 use Rattle.kinds.specs.declared.refusal.Layer.TheVariants.{Watch}
 use Rattle.kinds.specs.declared.refusal.Reason.{Reason}
 use Rattle.kinds.specs.declared.refusal.Reason.TheVariants.{Watch as of_watch}
@@ -13,13 +12,14 @@ use Rattle.topl.specs.Table as T
 use Rattle.topl.specs.Runs.{World, Registers, so_far, closing}
 use Rattle.topl.specs.Deciding as D
 use Rattle.topl.specs.Theorems.{Steady}
-use Rattle.topl.specs.Ledger.{Ledger, Answer, says, refuse, refused, registers_of, world_of, turned, broken_at, rule, phase_reason, event_reason, with_event, Settles, Feeds, Closes}
+use Rattle.topl.specs.Ledger.{Ledger, Answer, says, refuse, refused, registers_of, world_of, turned, broken_at, rule, event_reason, with_event, Settles, Feeds, Closes}
 use Rattle.topl.specs.History.{Sound, Means}
 use Rattle.topl.proofs.Bounded.{bounded}
-use Rattle.topl.proofs.Calls.{feeds_refused, feeds_ruled, closes_ruled, phase_runs}
+use Rattle.topl.proofs.Calls.{feeds_refused, feeds_ruled, closes_ruled}
 use Rattle.topl.proofs.Lasting.{lasting}
 use Rattle.engine.specs.declared.property.Table.{Table}
 use Rattle.engine.specs.Meant.{meant}
+use Rattle.engine.specs.declared.entry.Entry.{Entry}
 use Rattle.engine.specs.declared.front.Ruling.{Ruling}
 use Rattle.engine.specs.declared.front.Ruling.TheVariants.{Breaks, Spills, Overfills, GoesOn}
 use Rattle.engine.specs.declared.state.State.{State}
@@ -31,30 +31,27 @@ use Rattle.watch.specs.declared.standing.Standing.{Standing}
 use Rattle.watch.specs.declared.standing.Asked.{Asked}
 use Rattle.watch.specs.declared.standing.Asked.TheVariants.{Event, End}
 use Rattle.watch.specs.Answers.{told}
-use Rattle.watch.specs.Turning.{counted, idle, stands, in_phase, ruled_out, Turned}
-use Rattle.watch.specs.Shows.{Lends, Shows}
+use Rattle.watch.specs.declared.held.Breach.{Breach}
+use Rattle.watch.specs.declared.held.Stage.{Stage}
+use Rattle.watch.specs.declared.held.Stage.TheVariants.{Running, Broken, Spilled, Full}
+use Rattle.watch.specs.Stages.{phase_of, position_of}
+use Rattle.watch.specs.Turning.{counted, idle, rests, stands, in_stage, ruled_out, Turned}
+use Rattle.watch.specs.Shows.{Agrees}
 use Rattle.watch.proofs.Asking.{refusal_is}
 
-module _ {V : Type 0} (class : V → Class) (table : Option (Bor Table)) (s : State V) (h : Held) (l : Ledger) (sh : Shows class table s h l) where
-  running : phase_reason h.phase ≡ None → l.phase ≡ Running
-  running i = sym sh.phase ∙ phase_runs h.phase i
+module _ {V : Type 0} (class : V → Class) (s : State V) (h : Held) (l : Ledger) (sh : Agrees class s h l) where
+  running : (x : Bor Table) → h.stage ≡ Running x → l.phase ≡ phases.Running
+  running x i = sym sh.phase ∙ ap phase_of i
 
-  lends : (x : Bor Table) → table ≡ Some x → l.phase ≡ Running → l.table ≡ meant x.now
-  lends x p run = subst (λ (o : Option (Bor Table)). Lends o l.table) p (sh.lent run)
+  pub feed_refused : (e : T.Event) (n : Reason) (x : Bor Table) (f : Refusal) → h.stage ≡ Running x → event_reason (meant x.now) e ≡ Some n →
+      f ≡ record { layer = Watch; reason = n; place = h.judged } → Feeds l e (l, refused f)
+  feed_refused e n x f p k r =
+      let run = running x p in
+      let t : l.table ≡ meant x.now = sh.lent x p in
+      subst (λ (g : Refusal). Feeds l e (l, refused g)) (sym (refusal_is class s h l sh f n r)) (feeds_refused l e n run (ap (λ (P : T.Table). event_reason P e) t ∙ k))
 
-  -- a watch that runs has a table
-  pub lent_one : phase_reason h.phase ≡ None → table ≡ None → ⊥
-  lent_one i p = subst (λ (o : Option (Bor Table)). Lends o l.table) p (sh.lent (running i))
-
-  pub feed_refused : (e : T.Event) (n : Reason) (x : Bor Table) (f : Refusal) → phase_reason h.phase ≡ None → table ≡ Some x → event_reason (meant x.now) e ≡ Some n →
-      f ≡ record { layer = Watch; reason = n; place = h.judged } → (m : Ledger) × Shows class table s h m × Feeds l e (m, refused f)
-  feed_refused e n x f i p k r =
-      let run = running i in
-      let t : l.table ≡ meant x.now = lends x p run in
-      (l, sh, subst (λ (g : Refusal). Feeds l e (l, refused g)) (sym (refusal_is class table s h l sh f n r)) (feeds_refused l e n run (ap (λ (P : T.Table). event_reason P e) t ∙ k)))
-
-  module _ (run : l.phase ≡ Running) where
-    means : Means l Running
+  module _ (run : l.phase ≡ phases.Running) where
+    means : Means l phases.Running
     means = subst (Means l) run sh.sound
 
     -- the list is steady at the rows' own bounds
@@ -78,46 +75,68 @@ module _ {V : Type 0} (class : V → Class) (table : Option (Bor Table)) (s : St
     judged_then : (asked : Asked) (w : World) → length w.events ≡ counted asked (length l.judged) → counted asked h.judged ≡ length w.events
     judged_then asked w n = ap (counted asked) sh.count ∙ sym n
 
-    not_broken : (asked : Asked) → idle asked ≡ Broken → ⊥
-    not_broken Event e = let z : ◌≡◌ {A = ℕ} 0 1 = cc in omega arith
-    not_broken End e = let z : ◌≡◌ {A = ℕ} 0 1 = cc in omega arith
+    rests_phase : (asked : Asked) → phase_of (rests asked h.stage) ≡ idle asked
+    rests_phase Event = sh.phase ∙ run
+    rests_phase End = refl
+
+    rests_nowhere : (asked : Asked) → position_of (rests asked h.stage) ≡ None
+    rests_nowhere Event = sh.position ∙ means.0
+    rests_nowhere End = refl
+
+    rests_lent : (asked : Asked) (x : Bor Table) → rests asked h.stage ≡ Running x → l.table ≡ meant x.now
+    rests_lent Event x e = sh.lent x e
+    rests_lent End x e = absurd (let z : ◌≡◌ {A = ℕ} 0 1 = cc in omega arith)
+
+    rests_whole : (asked : Asked) (b : Breach) → rests asked h.stage ≡ Broken b → ⊥
+    rests_whole Event b e = let f : phases.Running ≡ phases.Broken = sym (sh.phase ∙ run) ∙ ap phase_of e in let z : ◌≡◌ {A = ℕ} 0 1 = cc in omega arith
+    rests_whole End b e = let z : ◌≡◌ {A = ℕ} 0 1 = cc in omega arith
+
+    same_breach : (p : ℕ) (x : Entry) (b : Breach) → ◌≡◌ {A = Stage} (Broken (record { position = p; last = x })) (Broken b) → x ≡ b.last
+    same_breach p x b e = let same : ◌≡◌ {A = Breach} (record { position = p; last = x }) b = cc in ap (λ (c : Breach). c.last) same
+
+    same_known : (t : State V) (p : ℕ) (x : Entry) (b : Breach) → ◌≡◌ {A = Stage} (Broken (record { position = p; last = x })) (Broken b) → x.parent < t.book.used → b.last.parent < t.book.used
+    same_known t p x b e k = subst (λ (y : Entry). y.parent < t.book.used) (same_breach p x b e) k
+
+    same_shown : (t : State V) (p : ℕ) (x : Entry) (b : Breach) → ◌≡◌ {A = Stage} (Broken (record { position = p; last = x })) (Broken b)
+        → steps_by (vec_items t.book.entries) x ≡ steps_by (vec_items t.book.entries) b.last
+    same_shown t p x b e = ap (steps_by (vec_items t.book.entries)) (same_breach p x b e)
 
     told_idle : (asked : Asked) → told (Ok (stands asked)) ≡ says (idle asked) None
     told_idle Event = refl
     told_idle End = refl
 
     -- the two refusals by the rule: the phase turns, and nothing else
-    stopped : (q : Phase) (n : WatchReason) (t : State V) (k : Held) (r : Result Standing Refusal) (d : Ruling) → (q ≡ Running → ⊥) → (q ≡ Broken → ⊥) → Stays s t d → k ≡ in_phase q h → r ≡ ruled_out h n →
-        Sound (turned l q (world_of l)) → Shows class table t k (turned l q (world_of l)) × (told r ≡ refuse l (of_watch n))
-    stopped q n t k r d runs breaks stays e f S = (
-      subst (λ (z : Held). Shows class table t z (turned l q (world_of l))) (sym e) (record {
+    stopped : (q : Stage) (n : WatchReason) (t : State V) (k : Held) (r : Result Standing Refusal) (d : Ruling) → (phase_of q ≡ phases.Running → ⊥) → (phase_of q ≡ phases.Broken → ⊥) → position_of q ≡ None →
+        Stays s t d → k ≡ in_stage q h → r ≡ ruled_out h n → Sound (turned l (phase_of q) (world_of l)) → Agrees class t k (turned l (phase_of q) (world_of l)) × (told r ≡ refuse l (of_watch n))
+    stopped q n t k r d runs breaks none stays e f S = (
+      subst (λ (z : Held). Agrees class t z (turned l (phase_of q) (world_of l))) (sym e) (record {
         phase = refl;
         count = sh.count;
-        position = sh.position ∙ means.0;
+        position = none;
         board = stays.board ∙ sh.board;
         book = stays.book ∙ sh.book;
         sound = S;
         lawful = sh.lawful;
-        lent = λ i. absurd (runs i);
+        lent = λ x i. absurd (runs (ap phase_of i));
         cap = λ i. absurd (runs i);
         follows = λ i. absurd (runs i);
-        known = λ i. absurd (breaks i);
-        shown = λ i. absurd (breaks i);
+        known = λ b i. absurd (breaks (ap phase_of i));
+        shown = λ b i. absurd (breaks (ap phase_of i));
       }),
       ap told f ∙ ap (λ (c : ℕ). refused (record { layer = Watch; reason = of_watch n; place = c })) sh.count,
     )
 
     module _ (t : State V) (k : Held) (asked : Asked) (w : World) (r : Result Standing Refusal) (fills : length w.events ≡ counted asked (length l.judged)) where
       -- a turn of the watch is one of the ledger
-      turned_by : (d : Ruling) → Stays s t d → ComesTo s t l.table (registers_of l) l.judged w d → (d ≡ GoesOn → idle asked ≡ Running → Follows class t l.table (registers_of l) w.events) →
-          Turned h k d asked r → ((o : Ledger × Answer) → Settles l w (idle asked) (ruled d) o → Sound o.0) → (m : Ledger) × Shows class table t k m × Settles l w (idle asked) (ruled d) (m, told r)
+      turned_by : (d : Ruling) → Stays s t d → ComesTo s t l.table (registers_of l) l.judged w d → (d ≡ GoesOn → idle asked ≡ phases.Running → Follows class t l.table (registers_of l) w.events) →
+          Turned h k d asked r → ((o : Ledger × Answer) → Settles l w (idle asked) (ruled d) o → Sound o.0) → (m : Ledger) × Agrees class t k m × Settles l w (idle asked) (ruled d) (m, told r)
       turned_by (Breaks p x) stays C F u S =
           let path = steps_by (vec_items t.book.entries) x in
           let m = broken_at l w p path in
-          let a : told r ≡ says Broken (Some p) = ap told u.1 in
+          let a : told r ≡ says phases.Broken (Some p) = ap told u.1 in
           let o : Settles l w (idle asked) (D.breaks p) (m, told r) = (path, C.shown, λ j. (m, a j)) in (
             m,
-            subst (λ (z : Held). Shows class table t z m) (sym u.0) (record {
+            subst (λ (z : Held). Agrees class t z m) (sym u.0) (record {
               phase = refl;
               count = judged_then asked w fills;
               position = refl;
@@ -125,39 +144,39 @@ module _ {V : Type 0} (class : V → Class) (table : Option (Bor Table)) (s : St
               book = stays.book ∙ sh.book;
               sound = S (m, told r) o;
               lawful = sh.lawful;
-              lent = λ e. absurd (let z : ◌≡◌ {A = ℕ} 0 1 = cc in omega arith);
+              lent = λ y e. absurd (let z : ◌≡◌ {A = ℕ} 0 1 = cc in omega arith);
               cap = λ e. absurd (let z : ◌≡◌ {A = ℕ} 0 1 = cc in omega arith);
               follows = λ e. absurd (let z : ◌≡◌ {A = ℕ} 0 1 = cc in omega arith);
-              known = λ e. stays.known p x refl;
-              shown = λ e. refl;
+              known = λ b e. same_known t p x b e (stays.known p x refl);
+              shown = λ b e. same_shown t p x b e;
             }),
             o,
           )
       turned_by Spills stays C F u S =
-          let m = turned l Spilled (world_of l) in
-          let z = stopped Spilled IsSpilled t k r Spills (λ e. let z : ◌≡◌ {A = ℕ} 0 1 = cc in omega arith) (λ e. let z : ◌≡◌ {A = ℕ} 0 1 = cc in omega arith) stays u.0 u.1 refl in
+          let m = turned l phases.Spilled (world_of l) in
+          let z = stopped Spilled IsSpilled t k r Spills (λ e. let z : ◌≡◌ {A = ℕ} 0 1 = cc in omega arith) (λ e. let z : ◌≡◌ {A = ℕ} 0 1 = cc in omega arith) refl stays u.0 u.1 refl in
           (m, z.0, λ j. (m, z.1 j))
       turned_by Overfills stays C F u S =
-          let m = turned l Full (world_of l) in
-          let z = stopped Full IsFull t k r Overfills (λ e. let z : ◌≡◌ {A = ℕ} 0 1 = cc in omega arith) (λ e. let z : ◌≡◌ {A = ℕ} 0 1 = cc in omega arith) stays u.0 u.1 refl in
+          let m = turned l phases.Full (world_of l) in
+          let z = stopped Full IsFull t k r Overfills (λ e. let z : ◌≡◌ {A = ℕ} 0 1 = cc in omega arith) (λ e. let z : ◌≡◌ {A = ℕ} 0 1 = cc in omega arith) refl stays u.0 u.1 refl in
           (m, z.0, λ j. (m, z.1 j))
       turned_by GoesOn stays C F u S =
           let m = turned l (idle asked) w in
           let o : Settles l w (idle asked) D.goes_on (m, told r) = λ j. (m, (ap told u.1 ∙ told_idle asked) j) in (
             m,
-            subst (λ (z : Held). Shows class table t z m) (sym u.0) (record {
-              phase = refl;
+            subst (λ (z : Held). Agrees class t z m) (sym u.0) (record {
+              phase = rests_phase asked;
               count = judged_then asked w fills;
-              position = sh.position ∙ means.0;
+              position = rests_nowhere asked;
               board = stays.board ∙ sh.board;
               book = stays.book ∙ sh.book;
               sound = S (m, told r) o;
               lawful = sh.lawful;
-              lent = λ e. sh.lent run;
+              lent = rests_lent asked;
               cap = λ e. stays.cap ∙ sh.cap run;
               follows = λ e. F refl e;
-              known = λ e. absurd (not_broken asked e);
-              shown = λ e. absurd (not_broken asked e);
+              known = λ b e. absurd (rests_whole asked b e);
+              shown = λ b e. absurd (rests_whole asked b e);
             }),
             o,
           )
@@ -167,12 +186,12 @@ module _ {V : Type 0} (class : V → Class) (table : Option (Bor Table)) (s : St
   Promise P t judged world Then d = (k : Registers) (L : List T.Event) → Steady P k s.cap (room_of (vec_items s.book.entries)) L → judged ≡ length L → Follows class s P k L →
       ComesTo s t P k L (world L) d × Then t P k L
 
-  pub feed_ruled : (t : State V) (k : Held) (e : T.Event) (x : Bor Table) (d : Ruling) (r : Result Standing Refusal) → phase_reason h.phase ≡ None → table ≡ Some x → event_reason (meant x.now) e ≡ None →
+  pub feed_ruled : (t : State V) (k : Held) (e : T.Event) (x : Bor Table) (d : Ruling) (r : Result Standing Refusal) → h.stage ≡ Running x → event_reason (meant x.now) e ≡ None →
       Stays s t d → Promise (meant x.now) t h.judged (λ L. so_far (L ++ (e ∷ []))) (λ t P k L. d ≡ GoesOn → Follows class t P k (L ++ (e ∷ []))) d → Turned h k d Event r →
-      (m : Ledger) × Shows class table t k m × Feeds l e (m, told r)
-  feed_ruled t k e x d r i p free stays rules u =
-      let run = running i in
-      let tab : l.table ≡ meant x.now = lends x p run in
+      (m : Ledger) × Agrees class t k m × Feeds l e (m, told r)
+  feed_ruled t k e x d r p free stays rules u =
+      let run = running x p in
+      let tab : l.table ≡ meant x.now = sh.lent x p in
       let w = with_event l e in
       let none : event_reason l.table e ≡ None = ap (λ (P : T.Table). event_reason P e) tab ∙ free in
       let promise : Promise l.table t h.judged (λ L. so_far (L ++ (e ∷ []))) (λ t P k L. d ≡ GoesOn → Follows class t P k (L ++ (e ∷ []))) d =
@@ -181,21 +200,21 @@ module _ {V : Type 0} (class : V → Class) (table : Option (Bor Table)) (s : St
       let is = rule_is run t w d came.0 in
       let n = few run in
       let long = length-append l.judged (e ∷ []) in
-      let feeds : (o : Ledger × Answer) → Settles l w Running (ruled d) o → Feeds l e o = λ o y. feeds_ruled l e (ruled d) o run none is y in
+      let feeds : (o : Ledger × Answer) → Settles l w phases.Running (ruled d) o → Feeds l e o = λ o y. feeds_ruled l e (ruled d) o run none is y in
       let z = turned_by run t k Event w r (omega arith) d stays came.0 (λ g v. came.1 g) u (λ o y. lasting.feed_sound l e o sh.sound (feeds o y)) in
       (z.0, z.1, feeds (z.0, told r) z.2)
 
-  pub close_ruled : (t : State V) (k : Held) (x : Bor Table) (d : Ruling) (r : Result Standing Refusal) → phase_reason h.phase ≡ None → table ≡ Some x → Stays s t d →
+  pub close_ruled : (t : State V) (k : Held) (x : Bor Table) (d : Ruling) (r : Result Standing Refusal) → h.stage ≡ Running x → Stays s t d →
       ((k : Registers) (L : List T.Event) → Steady (meant x.now) k s.cap (room_of (vec_items s.book.entries)) L → h.judged ≡ length L → Follows class s (meant x.now) k L → ComesTo s t (meant x.now) k L (closing L) d) →
-      Turned h k d End r → (m : Ledger) × Shows class table t k m × Closes l (m, told r)
-  close_ruled t k x d r i p stays rules u =
-      let run = running i in
-      let tab : l.table ≡ meant x.now = lends x p run in
+      Turned h k d End r → (m : Ledger) × Agrees class t k m × Closes l (m, told r)
+  close_ruled t k x d r p stays rules u =
+      let run = running x p in
+      let tab : l.table ≡ meant x.now = sh.lent x p in
       let w = closing l.judged in
       let promise : (k : Registers) (L : List T.Event) → Steady l.table k s.cap (room_of (vec_items s.book.entries)) L → h.judged ≡ length L → Follows class s l.table k L → ComesTo s t l.table k L (closing L) d =
       subst (λ (P : T.Table). (k : Registers) (L : List T.Event) → Steady P k s.cap (room_of (vec_items s.book.entries)) L → h.judged ≡ length L → Follows class s P k L → ComesTo s t P k L (closing L) d) (sym tab) rules in
       let came = promise (registers_of l) l.judged (steady run) sh.count (sh.follows run) in
       let is = rule_is run t w d came in
-      let closes : (o : Ledger × Answer) → Settles l w Kept (ruled d) o → Closes l o = λ o y. closes_ruled l (ruled d) o run is y in
+      let closes : (o : Ledger × Answer) → Settles l w phases.Kept (ruled d) o → Closes l o = λ o y. closes_ruled l (ruled d) o run is y in
       let z = turned_by run t k End w r refl d stays came (λ g v. absurd (let z : ◌≡◌ {A = ℕ} 0 1 = cc in omega arith)) u (λ o y. lasting.close_sound l o sh.sound (closes o y)) in
       (z.0, z.1, closes (z.0, told r) z.2)

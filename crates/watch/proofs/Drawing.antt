@@ -1,31 +1,24 @@
 -- What a draw does to the ledger that a watch shows.
-use Rattle.std.proofs.Common.{◌≡◌, ℕ, List, [], ◌∷◌, map, None, Option, sym, ◌∙◌, subst, Bor}
-use Rattle.kinds.specs.declared.phase.Phase.TheVariants.{Running}
-use Rattle.kinds.specs.declared.refusal.Ending.{Ending}
+use Rattle.std.proofs.Common.{◌≡◌, ℕ, List, ◌∷◌, map, sym, ap, ◌∙◌, subst, Bor}
+use Rattle.kinds.specs.declared.phase.Phase.TheVariants as phases
+use Rattle.kinds.specs.Refusals.{Ending}
 use Rattle.topl.specs.Lists.{Class}
 use Rattle.topl.specs.Theorems.{seen}
-use Rattle.topl.specs.Ledger.{Ledger, Answer, phase_reason, passed_on, Feeds, Draws}
-use Rattle.topl.proofs.Calls.{draws_none, draws_fed, phase_runs}
+use Rattle.topl.specs.Ledger.{Ledger, Answer, Feeds, Draws}
+use Rattle.topl.proofs.Calls.{draws_fed}
 use Rattle.sources.specs.Events.{Happening}
 use Rattle.engine.specs.declared.property.Table.{Table}
 use Rattle.engine.specs.declared.state.State.{State}
 use Rattle.watch.specs.declared.held.Held.{Held}
-use Rattle.watch.specs.Shows.{Shows, meaning}
+use Rattle.watch.specs.declared.held.Stage.TheVariants.{Running}
+use Rattle.watch.specs.Stages.{phase_of}
+use Rattle.watch.specs.Shows.{Agrees, meaning}
 
-module _ {V : Type 0} (class : V → Class) (table : Option (Bor Table)) (s : State V) (h : Held) (l : Ledger) (sh : Shows class table s h l) (free : phase_reason h.phase ≡ None) where
-  running : l.phase ≡ Running
-  running = sym sh.phase ∙ phase_runs h.phase free
+module _ {V : Type 0} (class : V → Class) (s : State V) (h : Held) (l : Ledger) (sh : Agrees class s h l) (t : Bor Table) (runs : h.stage ≡ Running t) where
+  running : l.phase ≡ phases.Running
+  running = sym sh.phase ∙ ap phase_of runs
 
-  -- with no event waiting the ending is passed on
-  pub draw_none : (hs ks : List (Happening V)) (stop stop' : Ending) (a : Answer) → hs ≡ [] → ks ≡ hs → stop' ≡ stop → a ≡ passed_on stop →
-      Draws l (meaning class hs stop) (l, a) (meaning class ks stop')
-  draw_none hs ks stop stop' a e k n p =
-      let none : Draws l (meaning class [] stop) (l, passed_on stop) (meaning class [] stop) = draws_none l stop running in
-      let here : Draws l (meaning class hs stop) (l, passed_on stop) (meaning class hs stop) = subst (λ (z : List (Happening V)). Draws l (meaning class z stop) (l, passed_on stop) (meaning class z stop)) (sym e) none in
-      let after : Draws l (meaning class hs stop) (l, passed_on stop) (meaning class ks stop') = subst (λ (z : List (Happening V) × Ending). Draws l (meaning class hs stop) (l, passed_on stop) (meaning class z.0 z.1)) (λ j. (sym k j, sym n j)) here in
-      subst (λ (z : Answer). Draws l (meaning class hs stop) (l, z) (meaning class ks stop')) (sym p) after
-
-  -- else the first event is fed
+  -- the first event that waits is fed
   pub draw_fed : (hs ks : List (Happening V)) (stop stop' : Ending) (x : Happening V) (id : ℕ) (values : List V) (m : Ledger) (a : Answer) → hs ≡ x ∷ ks → stop' ≡ stop → id ≡ x.id → values ≡ x.values →
       Feeds l (seen class id values) (m, a) → Draws l (meaning class hs stop) (m, a) (meaning class ks stop')
   draw_fed hs ks stop stop' x id values m a e n i v f =

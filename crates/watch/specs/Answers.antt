@@ -1,10 +1,8 @@
 -- What the results of the calls say, as answers of the ledger.
-use Rattle.std.specs.Prelude.{ℕ, List, Some, None, Ok, Err, Option, Result}
-use Rattle.kinds.specs.declared.phase.Phase.{Phase}
+use Rattle.std.specs.Prelude.{◌≡◌, ℕ, List, Some, None, Ok, Err, Option, Result}
 use Rattle.kinds.specs.declared.phase.Phase.TheVariants as phases
+use Rattle.kinds.specs.declared.refusal.Layer.TheVariants.{Watch}
 use Rattle.kinds.specs.declared.refusal.Reason.{Reason}
-use Rattle.kinds.specs.declared.refusal.Reason.TheVariants.{Watch as of_watch}
-use Rattle.kinds.specs.declared.watch_reason.WatchReason.TheVariants.{NotBroken}
 use Rattle.kinds.specs.declared.refusal.Refusal.{Refusal}
 use Rattle.topl.specs.Ledger.{Answer, begun, no_event, says, verdict_is, wrote, unwritten, refused}
 use Rattle.watch.specs.declared.standing.Standing.{Standing}
@@ -42,11 +40,11 @@ paged (Err f) page = unwritten f page
 abbrev pub tells : Verdict → Answer
 tells v = verdict_is v.phase v.judged v.position
 
--- A path is refused by the phase unless the watch is broken.
-abbrev pub path_reason : Phase → Option Reason
-path_reason phases.Blank = Some (of_watch NotBroken)
-path_reason phases.Running = Some (of_watch NotBroken)
-path_reason phases.Broken = None
-path_reason phases.Spilled = Some (of_watch NotBroken)
-path_reason phases.Full = Some (of_watch NotBroken)
-path_reason phases.Kept = Some (of_watch NotBroken)
+-- The watch refuses for this reason, at the judged count.
+abbrev pub RefusedFor : Option Reason → ℕ → Refusal → Type 0
+RefusedFor o judged f = (o ≡ Some f.reason) × (f ≡ record { layer = Watch; reason = f.reason; place = judged })
+
+-- A check passes exactly where there is no reason to refuse.
+abbrev pub Checks : Option Reason → ℕ → Result (Unit {0}) Refusal → Type 0
+Checks o judged (Ok u) = o ≡ None
+Checks o judged (Err f) = RefusedFor o judged f

@@ -1,3 +1,4 @@
 pub mod Answers
+pub mod Stages
 pub mod Turning
 pub mod Shows

@@ -1,12 +1,13 @@
 -- When a watch shows a ledger.
-use Rattle.std.specs.Prelude.{◌≡◌, ◌<◌, List, map, length, Some, None, vec_items, vec_len, Option}
+use Rattle.std.specs.Prelude.{◌≡◌, ◌<◌, List, map, length, vec_items, vec_len}
 use Rattle.std.specs.Borrow.{Bor}
-use Rattle.kinds.specs.declared.phase.Phase.TheVariants.{Running, Broken}
-use Rattle.kinds.specs.declared.refusal.Ending.{Ending}
+use Rattle.kinds.specs.declared.kind.Kind.{Ghosts}
+use Rattle.kinds.specs.declared.phase.Phase.TheVariants as phases
+use Rattle.kinds.specs.Refusals.{Ending}
 use Rattle.topl.specs.Lists.{Class}
 use Rattle.topl.specs.Table as T
 use Rattle.topl.specs.Theorems.{seen}
-use Rattle.topl.specs.Ledger.{Ledger, registers_of, Source}
+use Rattle.topl.specs.Ledger.{Ledger, Answer, registers_of, Source}
 use Rattle.topl.specs.History.{Sound}
 use Rattle.sources.specs.Events.{Happening}
 use Rattle.engine.specs.declared.property.Table.{Table}
@@ -14,28 +15,35 @@ use Rattle.engine.specs.Meant.{meant}
 use Rattle.engine.specs.declared.state.State.{State}
 use Rattle.engine.specs.States.{Follows}
 use Rattle.engine.specs.Trails.{steps_by}
+use Rattle.watch.specs.declared.held.Breach.{Breach}
 use Rattle.watch.specs.declared.held.Held.{Held}
+use Rattle.watch.specs.declared.held.Stage.TheVariants.{Running, Broken}
+use Rattle.watch.specs.declared.watch.Watch.{Watch}
+use Rattle.watch.specs.Stages.{phase_of, position_of}
 
--- the table that was lent is this one
-abbrev pub Lends : Option (Bor Table) → T.Table → Type 0
-Lends None P = ⊥
-Lends (Some x) P = P ≡ meant x.now
-
--- The watch shows the ledger: they agree in phase, judged count, position and the lengths of board and book, and the ledger is sound; while it runs the
+-- What a watch holds agrees with the ledger: in phase, judged count, position and the lengths of board and book, and the ledger is sound; while it runs the
 -- ledger's table is the lent one and the rows follow the judged events; once it is broken the book has the steps of the shown run.
-pub record Shows {V : Type 0} (class : V → Class) (table : Option (Bor Table)) (s : State V) (h : Held) (l : Ledger) : Type 0 where
-  pub phase : h.phase ≡ l.phase
+pub record Agrees {V : Type 0} (class : V → Class) (s : State V) (h : Held) (l : Ledger) : Type 0 where
+  pub phase : phase_of h.stage ≡ l.phase
   pub count : h.judged ≡ length l.judged
-  pub position : h.position ≡ l.position
+  pub position : position_of h.stage ≡ l.position
   pub board : vec_len s.board ≡ l.board
   pub book : length (vec_items s.book.entries) ≡ l.book
   pub sound : Sound l
   pub lawful : T.Lawful l.table
-  pub lent : l.phase ≡ Running → Lends table l.table
-  pub cap : l.phase ≡ Running → s.cap ≡ l.cap
-  pub follows : l.phase ≡ Running → Follows class s l.table (registers_of l) l.judged
-  pub known : l.phase ≡ Broken → h.shown.parent < s.book.used
-  pub shown : l.phase ≡ Broken → l.shown ≡ steps_by (vec_items s.book.entries) h.shown
+  pub lent : (x : Bor Table) → h.stage ≡ Running x → l.table ≡ meant x.now
+  pub cap : l.phase ≡ phases.Running → s.cap ≡ l.cap
+  pub follows : l.phase ≡ phases.Running → Follows class s l.table (registers_of l) l.judged
+  pub known : (b : Breach) → h.stage ≡ Broken b → b.last.parent < s.book.used
+  pub shown : (b : Breach) → h.stage ≡ Broken b → l.shown ≡ steps_by (vec_items s.book.entries) b.last
+
+-- The watch shows the ledger.
+abbrev pub Shows : {K V : Type 0} {kind : Ghosts K V} → Watch K V kind → Ledger → Type 0
+Shows {kind} w l = Agrees kind.class w.rows.state w.held l
+
+-- What a call does with any ledger that the watch shows: it answers so, and the watch shows a ledger that the call may leave.
+abbrev pub Turns : {K V : Type 0} {kind : Ghosts K V} → Watch K V kind → (Ledger → Ledger × Answer → Type 0) → Answer → Watch K V kind → Type 0
+Turns w does a v = (l : Ledger) → Shows w l → (m : Ledger) × Shows v m × does l (m, a)
 
 -- a source as the ledger sees it, by the events that wait and the ending
 abbrev pub meaning : {V : Type 0} → (V → Class) → List (Happening V) → Ending → Source

@@ -1,5 +1,5 @@
 -- How the deciding rule's word turns what a watch keeps.
-use Rattle.std.specs.Prelude.{◌≡◌, ℕ, ◌+◌, min, Some, Ok, Err, Result}
+use Rattle.std.specs.Prelude.{◌≡◌, ℕ, ◌+◌, min, Ok, Err, Result}
 use Rattle.kinds.specs.declared.phase.Phase.{Phase}
 use Rattle.kinds.specs.declared.phase.Phase.TheVariants as phases
 use Rattle.kinds.specs.declared.refusal.Layer.TheVariants.{Watch}
@@ -10,6 +10,8 @@ use Rattle.kinds.specs.declared.refusal.Refusal.{Refusal}
 use Rattle.engine.specs.declared.front.Ruling.{Ruling}
 use Rattle.engine.specs.declared.front.Ruling.TheVariants.{Breaks, Spills, Overfills, GoesOn}
 use Rattle.watch.specs.declared.held.Held.{Held}
+use Rattle.watch.specs.declared.held.Stage.{Stage}
+use Rattle.watch.specs.declared.held.Stage.TheVariants.{Broken, Spilled, Full, Kept}
 use Rattle.watch.specs.declared.standing.Standing.{Standing}
 use Rattle.watch.specs.declared.standing.Standing.TheVariants as standings
 use Rattle.watch.specs.declared.standing.Asked.{Asked}
@@ -30,8 +32,13 @@ abbrev pub stands : Asked → Standing
 stands Event = standings.Running
 stands End = standings.Kept
 
-abbrev pub in_phase : Phase → Held → Held
-in_phase q h = record { phase = q; judged = h.judged; position = h.position; shown = h.shown }
+-- the stage after, where nothing decides: an event leaves it as it is
+abbrev pub rests : Asked → Stage → Stage
+rests Event q = q
+rests End q = Kept
+
+abbrev pub in_stage : Stage → Held → Held
+in_stage q h = record { stage = q; judged = h.judged }
 
 -- one of the two refusals that the rule gives
 abbrev pub ruled_out : Held → WatchReason → Result Standing Refusal
@@ -39,7 +46,7 @@ ruled_out h n = Err (record { layer = Watch; reason = of_watch n; place = h.judg
 
 -- what is kept, before and after, with what is told
 abbrev pub Turned : Held → Held → Ruling → Asked → Result Standing Refusal → Type 0
-Turned h k (Breaks p x) asked r = (k ≡ record { phase = phases.Broken; judged = counted asked h.judged; position = Some p; shown = x }) × (r ≡ Ok (standings.Broken p))
-Turned h k Spills asked r = (k ≡ in_phase phases.Spilled h) × (r ≡ ruled_out h IsSpilled)
-Turned h k Overfills asked r = (k ≡ in_phase phases.Full h) × (r ≡ ruled_out h IsFull)
-Turned h k GoesOn asked r = (k ≡ record { phase = idle asked; judged = counted asked h.judged; position = h.position; shown = h.shown }) × (r ≡ Ok (stands asked))
+Turned h k (Breaks p x) asked r = (k ≡ record { stage = Broken (record { position = p; last = x }); judged = counted asked h.judged }) × (r ≡ Ok (standings.Broken p))
+Turned h k Spills asked r = (k ≡ in_stage Spilled h) × (r ≡ ruled_out h IsSpilled)
+Turned h k Overfills asked r = (k ≡ in_stage Full h) × (r ≡ ruled_out h IsFull)
+Turned h k GoesOn asked r = (k ≡ record { stage = rests asked h.stage; judged = counted asked h.judged }) × (r ≡ Ok (stands asked))

@@ -1,29 +1,71 @@
-// What a watch keeps beside its table and its rows.
-ghost use Rattle.std.specs.Prelude.{◌≡◌, None};
-ghost use Rattle.kinds.specs.declared.phase.Phase.TheVariants.{Blank};
+// What a watch keeps beside its rows.
+ghost use Rattle.std.specs.Prelude.{◌≡◌};
+ghost use Rattle.watch.specs.Stages.{phase_of, position_of};
+ghost use Rattle.watch.specs.declared.held.Stage.TheVariants.{Blank};
 
 use engine::entry::Entry;
+use engine::property::Table;
 use kinds::phase::Phase;
 
-// The phase, how many events are judged, and once the watch is broken the position and the last step of the run that is shown.
+// Where a run reaches `error`, and the last step of the run that is shown.
 #[derive(Clone, Copy)]
-pub struct Held {
-    pub phase: Phase,
-    pub judged: usize,
-    pub position: Option<usize>,
-    pub shown: Entry,
+pub struct Breach {
+    pub position: usize,
+    pub last: Entry,
 }
 
-impl Held {
+// The phase, with what the watch keeps for it: the table that was lent while it runs, and the breach once it is broken.
+#[derive(Clone, Copy)]
+pub enum Stage<'a> {
+    Blank,
+    Running(&'a Table),
+    Broken(Breach),
+    Spilled,
+    Full,
+    Kept,
+}
+
+impl Stage<'_> {
+    // The phase alone.
+    pub(crate) fn phase(self) -> Phase
+        ensures { result ≡ phase_of self.entry }
+    {
+        match self {
+            Stage::Blank => Phase::Blank,
+            Stage::Running(_) => Phase::Running,
+            Stage::Broken(_) => Phase::Broken,
+            Stage::Spilled => Phase::Spilled,
+            Stage::Full => Phase::Full,
+            Stage::Kept => Phase::Kept,
+        }
+    }
+
+    // The position, if it is broken.
+    pub(crate) fn position(self) -> Option<usize>
+        ensures { result ≡ position_of self.entry }
+    {
+        match self {
+            Stage::Broken(breach) => Some(breach.position),
+            _ => None,
+        }
+    }
+}
+
+// The stage, and how many events are judged.
+#[derive(Clone, Copy)]
+pub struct Held<'a> {
+    pub stage: Stage<'a>,
+    pub judged: usize,
+}
+
+impl<'a> Held<'a> {
     // What a blank watch keeps.
-    pub(crate) fn blank() -> Held
-        ensures { result ≡ record { phase = Blank; judged = 0; position = None; shown = record { parent = 0; step = 0 } } }
+    pub(crate) fn blank() -> Held<'a>
+        ensures { result ≡ record { stage = Blank; judged = 0 } }
     {
         Held {
-            phase: Phase::Blank,
+            stage: Stage::Blank,
             judged: 0,
-            position: None,
-            shown: Entry { parent: 0, step: 0 },
         }
     }
 }

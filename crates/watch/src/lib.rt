@@ -2,6 +2,5 @@
 #![tactic(auto)]
 
 pub mod held;
-pub mod reasons;
 pub mod standing;
 pub mod watch;

@@ -14,7 +14,7 @@ returns-in-Begin g c l sh =
     let d = c.begin.ensures l sh in (
       d.0,
       d.1,
-      begin_at g.K.Kind.class l d.0 (meant g.K.Kind.class g.S.Source.waiting g.S.Source.ending c.args.sources.now) c.args.call c.begun.result (began c.begin.result) c.begun.ensures
+      begin_at g.K.Kind.class l d.0 (meant g.K.Kind.class g.S.Source.waiting g.S.Source.ending c.args.sources.now) c.args.call c.from.result (began c.begin.result) c.from.ensures
           c.in-Begin.table c.in-Begin.constants c.in-Begin.cap c.in-Begin.is d.2,
     )
 
@@ -23,7 +23,7 @@ returns-in-Feed g c l sh =
     let d = c.feed.ensures l sh in (
       d.0,
       d.1,
-      feed_at g.K.Kind.class l d.0 (meant g.K.Kind.class g.S.Source.waiting g.S.Source.ending c.args.sources.now) c.args.call c.said.result (told c.feed.result) c.said.ensures
+      feed_at g.K.Kind.class l d.0 (meant g.K.Kind.class g.S.Source.waiting g.S.Source.ending c.args.sources.now) c.args.call c.from-in-Feed.result (told c.feed.result) c.from-in-Feed.ensures
           c.in-Feed.id c.in-Feed.values c.in-Feed.is d.2,
     )
 
@@ -36,13 +36,13 @@ returns-else-k-sources g c l sh =
       d.0,
       d.1,
       draw_at g.K.Kind.class g.S.Source.waiting g.S.Source.ending l d.0 c.args.sources.now c.args.call c.in-Draw.k c.index-sources-k.result c.draw.new.source
-          (drew c.draw.result) c.drawn.result c.in-Draw.is c.if-k-sources.false d.2 c.drawn.ensures,
+          (drew c.draw.result) c.from-else-k-sources.result c.in-Draw.is c.if-k-sources.false d.2 c.from-else-k-sources.ensures,
     )
 
 pub returns-in-Close : goal.returns-in-Close
 returns-in-Close g c l sh =
     let d = c.close.ensures l sh in
-    (d.0, d.1, close_at g.K.Kind.class l d.0 (meant g.K.Kind.class g.S.Source.waiting g.S.Source.ending c.args.sources.now) c.args.call c.said-in-Close.result (told c.close.result) c.said-in-Close.ensures c.in-Close.is d.2)
+    (d.0, d.1, close_at g.K.Kind.class l d.0 (meant g.K.Kind.class g.S.Source.waiting g.S.Source.ending c.args.sources.now) c.args.call c.from-in-Close.result (told c.close.result) c.from-in-Close.ensures c.in-Close.is d.2)
 
 pub returns-in-Verdict : goal.returns-in-Verdict
 returns-in-Verdict g c l sh =
@@ -55,8 +55,8 @@ returns-in-Ok g c l sh =
     let v : c.deref_mut.result.now ≡ c.in-Path.bytes.now = c.deref_mut.ensures.value ∙ c.in_ok-page-in-Path.ensures.items in (
       l,
       sh,
-      path_at g.K.Kind.class l l (meant g.K.Kind.class g.S.Source.waiting g.S.Source.ending c.args.sources.now) c.args.call (Wrote c.in-Ok.count (with_items c.in_ok-page-in-Path.page c.path.new.page)) (wrote c.in-Ok.count after) refl c.in-Path.bytes c.in-Path.is
-          (ap (wrote c.in-Ok.count) e ∙ c.in-Ok.ensures l sh ∙ ap (path_on l) v),
+      path_at g.K.Kind.class l l (meant g.K.Kind.class g.S.Source.waiting g.S.Source.ending c.args.sources.now) c.args.call (Wrote c.in-Ok.steps (with_items c.in_ok-page-in-Path.page c.path.new.page)) (wrote c.in-Ok.steps after) refl c.in-Path.bytes c.in-Path.is
+          (ap (wrote c.in-Ok.steps) e ∙ c.in-Ok.ensures l sh ∙ ap (path_on l) v),
     )
 
 pub returns-in-Err : goal.returns-in-Err
@@ -66,9 +66,10 @@ returns-in-Err g c l sh =
     let v : c.deref_mut.result.now ≡ c.in-Path.bytes.now = c.deref_mut.ensures.value ∙ c.in_ok-page-in-Path.ensures.items in (
       l,
       sh,
-      path_at g.K.Kind.class l l (meant g.K.Kind.class g.S.Source.waiting g.S.Source.ending c.args.sources.now) c.args.call (Unwritten c.in-Err.f (with_items c.in_ok-page-in-Path.page c.path.new.page)) (unwritten c.in-Err.f after) refl c.in-Path.bytes c.in-Path.is
-          (ap (unwritten c.in-Err.f) e ∙ c.in-Err.ensures l sh ∙ ap (path_on l) v),
+      path_at g.K.Kind.class l l (meant g.K.Kind.class g.S.Source.waiting g.S.Source.ending c.args.sources.now) c.args.call (Unwritten c.in-Err.refusal (with_items c.in_ok-page-in-Path.page c.path.new.page)) (unwritten c.in-Err.refusal after) refl c.in-Path.bytes c.in-Path.is
+          (ap (unwritten c.in-Err.refusal) e ∙ c.in-Err.ensures l sh ∙ ap (path_on l) v),
     )
 
 pub returns-in_err-page-in-Path : goal.returns-in_err-page-in-Path
 returns-in_err-page-in-Path g c = MatchResult-from_err c.from_residual.result _ _ c.from_residual.ensures.0 (λ y. refl)
+

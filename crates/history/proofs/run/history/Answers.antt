@@ -1,19 +1,10 @@
 use Rattle.std.proofs.Common.{◌≡◌, ◌+◌, [], ◌∷◌, ◌++◌, length, take, vec_items, vec_len, sym, refl, ap, ◌∙◌, subst, arith, length-take}
-use prog.Memory.{align, size}
-use denote.Memory.{lone}
 use Rattle.std.proofs.lemmas.List.{take_more, take_all, length_push}
 use Rattle.std.proofs.lemmas.Result.{MatchResult-from_err}
 use Rattle.topl.specs.History.{History, made}
 use Rattle.history.specs.Calls.{log, meant, moment}
-use Rattle.watch.proofs.Sizes.{watch_fits}
 use Rattle.history.proofs.Steps.{history_step, finish}
 use Rattle.history.proofs.run.history.Goals as goal
-
-pub new-watch-requires : goal.new-watch-requires
-new-watch-requires g c = let f = g.met.K.Kind.small in watch_fits (align (lone g.row.K-Value.mir)) (size (lone g.row.K-Value.mir)) f.1 f.0
-
-pub answer-requires : goal.answer-requires
-answer-requires g c = let f = g.met.K.Kind.small in watch_fits (align (lone g.row.K-Value.mir)) (size (lone g.row.K-Value.mir)) f.1 f.0
 
 pub returns-in_err-answer : goal.returns-in_err-answer
 returns-in_err-answer g c =
@@ -87,3 +78,9 @@ returns g c =
     let long : length (take i c.args.calls.now) ≡ i = omega (arith, length-take i c.args.calls.now) in
     finish cl (vec_len c.args.board) (vec_len c.args.book) _ _ (meant cl w e c.args.sources.now) (meant cl w e c.loop-call.sources) (take i c.args.calls.now) c.args.calls.now (vec_items c.loop-call.answers) inv.0
     c.new-watch.ensures.board c.new-watch.ensures.book (take_all i c.args.calls.now (omega arith)) (inv.2 ∙ sym long) inv.3
+
+pub new-watch-requires : goal.new-watch-requires
+new-watch-requires g c = ?
+
+pub answer-requires : goal.answer-requires
+answer-requires g c = ?

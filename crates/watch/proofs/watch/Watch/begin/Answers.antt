@@ -1,26 +1,30 @@
-use Rattle.std.proofs.Common.{map, length, vec_items, sym, refl, ap, ◌∙◌, subst}
+use Rattle.std.proofs.Common.{map, length, vec_items, sym, refl, ap, ◌∙◌, subst, Err}
+use Rattle.std.proofs.lemmas.Result.{err_from_is_err_and}
 use Rattle.engine.specs.Meant.{meant}
 use Rattle.engine.proofs.Properties.{lawful}
 use Rattle.engine.specs.Opening.{Opens}
+use Rattle.topl.specs.Ledger.{Begins}
+use Rattle.watch.specs.Answers.{began}
 use Rattle.watch.proofs.Beginning.{reasons_same, begin_refused, begin_suits, begin_runs}
 use Rattle.watch.proofs.watch.Watch.begin.Goals as goal
 
-pub returns-in-Some : goal.returns-in-Some
-returns-in-Some g c l sh =
+pub returns-in_err-may_begin : goal.returns-in_err-may_begin
+returns-in_err-may_begin g c l sh =
     let w = c.args.self.now in
     let P = meant c.args.table.now in
-    let e = reasons_same g.K.Kind.class w.table w.rows.state w.held l sh P c.args.constants.now c.board_len-board.result c.book_len-book.result (length c.args.constants.now) (length c.constants-wanted.result.now) c.args.cap
-    c.board_len-board.ensures c.book_len-book.ensures refl (ap length c.constants-wanted.ensures.are) in
-    begin_refused g.K.Kind.class w.table w.rows.state w.held l sh P (map g.K.Kind.class c.args.constants.now) c.args.cap c.in-Some.reason c.refuse.result
-    (sym e ∙ sym c.opening_reason.ensures ∙ c.in-Some.is) c.refuse.ensures
+    let e = reasons_same g.K.Kind.class w.rows.state w.held l sh P c.args.constants.now (length c.args.constants.now) (length c.constants.result.now) c.args.cap refl (ap length c.constants.ensures.are) in
+    let f = c.in_err-may_begin.field-0.0 in
+    let r = c.in_err-may_begin.ensures in
+    let p = err_from_is_err_and c.from_residual.result c.from_residual.ensures.1 in
+    let ks = map g.K.Kind.class c.args.constants.now in
+    (l, sh, subst (λ a. Begins l P ks c.args.cap (l, began a)) (sym (p.1 ∙ ap Err p.2)) (begin_refused g.K.Kind.class w.rows.state w.held l sh P ks c.args.cap f (sym e ∙ r.0) r.1))
 
 pub returns-then-not-open : goal.returns-then-not-open
 returns-then-not-open g c l sh =
     let w = c.args.self.now in
     let P = meant c.args.table.now in
-    let e = reasons_same g.K.Kind.class w.table w.rows.state w.held l sh P c.args.constants.now c.board_len-board.result c.book_len-book.result (length c.args.constants.now) (length c.constants-wanted.result.now) c.args.cap
-    c.board_len-board.ensures c.book_len-book.ensures refl (ap length c.constants-wanted.ensures.are) in
-    absurd (begin_suits g.K.Kind.class w.table w.rows.state w.held l sh c.args.table c.args.constants.now c.args.cap (sym e ∙ sym c.opening_reason.ensures ∙ c.in_default.is) c.open.new.self.state
+    let e = reasons_same g.K.Kind.class w.rows.state w.held l sh P c.args.constants.now (length c.args.constants.now) (length c.constants.result.now) c.args.cap refl (ap length c.constants.ensures.are) in
+    absurd (begin_suits g.K.Kind.class w.rows.state w.held l sh c.args.table c.args.constants.now c.args.cap (sym e ∙ c.in_ok-may_begin.ensures) c.open.new.self.state
     (subst (λ b. Opens g.K.Kind.class w.rows.state c.open.new.self.state P c.args.constants.now c.args.cap b) c.if-not-open.true c.open.ensures))
 
 pub returns : goal.returns
@@ -28,8 +32,7 @@ returns g c l sh =
     let w = c.args.self.now in
     let t = c.args.table.now in
     let P = meant t in
-    let e = reasons_same g.K.Kind.class w.table w.rows.state w.held l sh P c.args.constants.now c.board_len-board.result c.book_len-book.result (length c.args.constants.now) (length c.constants-wanted.result.now) c.args.cap
-    c.board_len-board.ensures c.book_len-book.ensures refl (ap length c.constants-wanted.ensures.are) in
-    begin_runs g.K.Kind.class w.table w.rows.state w.held l sh c.args.table c.args.constants.now c.args.cap (sym e ∙ sym c.opening_reason.ensures ∙ c.in_default.is) c.open.new.self.state
+    let e = reasons_same g.K.Kind.class w.rows.state w.held l sh P c.args.constants.now (length c.args.constants.now) (length c.constants.result.now) c.args.cap refl (ap length c.constants.ensures.are) in
+    begin_runs g.K.Kind.class w.rows.state w.held l sh c.args.table c.args.constants.now c.args.cap (sym e ∙ c.in_ok-may_begin.ensures) c.open.new.self.state
     (lawful (vec_items t.methods) (vec_items t.constants) (vec_items t.statements) t.lawful)
     (subst (λ b. Opens g.K.Kind.class w.rows.state c.open.new.self.state P c.args.constants.now c.args.cap b) c.if-not-open.false c.open.ensures)

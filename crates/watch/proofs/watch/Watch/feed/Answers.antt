@@ -1,48 +1,34 @@
-use prog.Memory.{align, size}
-use denote.Memory.{lone}
-use Rattle.std.proofs.Common.{map, ◌≡◌, Some, None, sym, ap, ◌∙◌, subst}
+use Rattle.std.proofs.Common.{map, ◌≡◌, Some, None, Err, sym, ap, ◌∙◌, subst}
 use Rattle.std.proofs.lemmas.List.{length-map}
+use Rattle.std.proofs.lemmas.Result.{err_from_is_err_and}
 use Rattle.topl.specs.Theorems.{seen}
-use Rattle.topl.specs.Ledger.{event_reason, count_reason}
+use Rattle.topl.specs.Ledger.{event_reason, count_reason, Feeds}
 use Rattle.engine.specs.Meant.{meant}
 use Rattle.engine.specs.Properties.{method}
-use Rattle.topl.proofs.Calls.{phase_runs}
-use Rattle.watch.specs.Shows.{Shows}
-use Rattle.watch.proofs.Deciding.{lent_one, feed_refused, feed_ruled}
-use Rattle.watch.proofs.Sizes.{watch_fits}
+use Rattle.watch.specs.Answers.{told}
+use Rattle.watch.specs.Shows.{Agrees}
+use Rattle.watch.proofs.Deciding.{feed_refused, feed_ruled}
 use Rattle.watch.proofs.watch.Watch.feed.Goals as goal
 
-pub returns-in_default-table : goal.returns-in_default-table
-returns-in_default-table g c l sh =
+pub returns-in_err-may_take : goal.returns-in_err-may_take
+returns-in_err-may_take g c l sh =
     let w = c.args.self.now in
-    absurd (lent_one g.K.Kind.class w.table w.rows.state w.held l sh (sym c.phase_reason.ensures ∙ c.in_default.is) c.in_default-table.is)
-
-pub returns-in-Some-event_reason : goal.returns-in-Some-event_reason
-returns-in-Some-event_reason g c l sh =
-    let w = c.args.self.now in
-    let x = c.in-Some-table.table in
+    let x = c.in_ok-table.table in
     let e = seen g.K.Kind.class c.args.id c.args.values.now in
-    let k : event_reason (meant x.now) e ≡ Some c.in-Some-event_reason.reason =
-    ap (count_reason (meant x.now) c.args.id) (length-map c.args.values.now g.K.Kind.class) ∙ sym (c.event_reason.ensures (meant x.now) (ap (map method) (sym c.methods.ensures))) ∙ c.in-Some-event_reason.is in
-    feed_refused g.K.Kind.class w.table w.rows.state w.held l sh e c.in-Some-event_reason.reason x c.refuse-in-Some-event_reason.result (sym c.phase_reason.ensures ∙ c.in_default.is) c.in-Some-table.is k c.refuse-in-Some-event_reason.ensures
+    let f = c.in_err-may_take.field-0.0 in
+    let r = c.in_err-may_take.ensures (meant x.now) (ap (map method) (sym c.methods.ensures)) in
+    let p = err_from_is_err_and c.from_residual-in_err-may_take.result c.from_residual-in_err-may_take.ensures.1 in
+    let k : event_reason (meant x.now) e ≡ Some f.reason = ap (count_reason (meant x.now) c.args.id) (length-map c.args.values.now g.K.Kind.class) ∙ r.0 in
+    (l, sh, subst (λ a. Feeds l e (l, told a)) (sym (p.1 ∙ ap Err p.2)) (feed_refused g.K.Kind.class w.rows.state w.held l sh e f.reason x f c.in_ok-table.ensures k r.1))
 
 pub returns : goal.returns
 returns g c l sh =
     let w = c.args.self.now in
-    let x = c.in-Some-table.table in
+    let x = c.in_ok-table.table in
     let e = seen g.K.Kind.class c.args.id c.args.values.now in
     let k : event_reason (meant x.now) e ≡ None =
-    ap (count_reason (meant x.now) c.args.id) (length-map c.args.values.now g.K.Kind.class) ∙ sym (c.event_reason.ensures (meant x.now) (ap (map method) (sym c.methods.ensures))) ∙ c.in_default-event_reason.is in
+    ap (count_reason (meant x.now) c.args.id) (length-map c.args.values.now g.K.Kind.class) ∙ c.in_ok-may_take.ensures (meant x.now) (ap (map method) (sym c.methods.ensures)) in
     let d = c.take_event-ruling in
-    let z = feed_ruled g.K.Kind.class w.table w.rows.state w.held l sh d.new.self.state c.turn.new.self.held e x d.result c.turn.result
-    (sym c.phase_reason.ensures ∙ c.in_default.is) c.in-Some-table.is k d.ensures.stays d.ensures.rules c.turn.ensures.0 in (
-      z.0,
-      subst (λ r. Shows g.K.Kind.class c.turn.new.self.table r.state c.turn.new.self.held z.0) (sym c.turn.ensures.1)
-          (subst (λ o. Shows g.K.Kind.class o d.new.self.state c.turn.new.self.held z.0) (sym c.turn.ensures.2) z.1),
-      z.2,
-    )
-
-pub turn-requires : goal.turn-requires
-turn-requires g c =
-    let f = g.met.K.Kind.small in
-    (watch_fits (align (lone g.row.K-Value.mir)) (size (lone g.row.K-Value.mir)) f.1 f.0, phase_runs c.args.self.now.held.phase (sym c.phase_reason.ensures ∙ c.in_default.is))
+    let z = feed_ruled g.K.Kind.class w.rows.state w.held l sh d.new.self.state c.turn.new.self.held e x d.result c.turn.result
+    c.in_ok-table.ensures k d.ensures.stays d.ensures.rules c.turn.ensures.0 in
+    (z.0, subst (λ r. Agrees g.K.Kind.class r.state c.turn.new.self.held z.0) (sym c.turn.ensures.1) z.1, z.2)
