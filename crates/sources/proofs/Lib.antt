@@ -2,5 +2,4 @@ pub mod Drained
 pub mod Gathered
 pub mod Places
 pub mod Recorded
-pub mod Taken
 pub mod Walked

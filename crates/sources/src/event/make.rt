@@ -86,6 +86,7 @@ impl<V: Copy> Event<V> {
     }
 
     // What stands at one of the six places: 0 has the returned value, 1 to 5 the parameters; `nothing` where none was given.
+    #[tactic(auto, using(crate::proofs::Places::at_index, crate::proofs::Places::no_index))]
     pub fn place(&self, nothing: V, place: usize) -> V
         ensures { result ≡ slice_index_or (places nothing (says self.now)) place nothing }
     {

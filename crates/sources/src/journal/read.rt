@@ -1,5 +1,6 @@
 // Reading a journal: a head, and then records of an id, a count of values and the values.
-ghost use Rattle.std.specs.Prelude.{◌≡◌, ℕ, ◌+◌, ◌*◌, ◌^◌, ◌<◌, ◌≤◌, length, IfOk, Some, None, MatchResult, OnErr};
+ghost use Rattle.std.specs.Prelude.{◌≡◌, ℕ, ◌+◌, ◌*◌, ◌^◌, ◌<◌, ◌≤◌, drop, length, IfOk, Some, None, MatchResult, OnErr};
+ghost use Rattle.std.specs.Fn.{FnReturnsAt};
 ghost use Rattle.kinds.specs.Numbers.{number_read};
 ghost use Rattle.sources.specs.Events.{most};
 ghost use Rattle.sources.specs.Format.{at, event_at, moved, record_at};
@@ -24,36 +25,22 @@ const MOST_BYTES: usize = 65_536;
 // The version of the format.
 const VERSION: u8 = 1;
 
-// Moves past what was read at the place; a fault is placed there, and nothing moves.
-fn advance<V: Copy>(place: &mut Place, read: Result<(V, usize), Fault>) -> Result<V, Refusal>
-    requires { IfOk read (λ t. place.old.at + t.1 < 2 ^ 64) }
-    ensures tells { told result place.new.at ≡ moved place.old.at read }
-    ensures moves { MatchResult read (λ t. place.new.at ≡ place.old.at + t.1) (λ _. place.new.at ≡ place.old.at) }
+// What a reading finds at the place, which then moves past it; a fault is placed there, and nothing moves.
+fn take<V: Copy, R: Fn(&[u8]) -> Result<(V, usize), Fault>>(
+    bytes: &[u8],
+    place: &mut Place,
+    read: R,
+) -> Result<V, Refusal>
+    requires within { place.old.at ≤ length bytes.now }
+    requires callable { R.IsAlwaysCallable read }
+    requires short { (s : _) (r : _) → R.post read s r → IfOk r (λ t. t.1 ≤ length s.now) }
+    ensures tells { (r : _) × FnReturnsAt R.Fn read (drop place.old.at bytes.now) r × (told result place.new.at ≡ moved place.old.at r) }
+    ensures within { place.new.at ≤ length bytes.now }
 {
     let start = place.at;
-    let (value, count) = read.map_err(|fault| fault.at(start))?;
+    let (value, count) = read(&bytes[start..]).map_err(|fault| fault.at(start))?;
     place.at += count;
     Ok(value)
-}
-
-// The number at the place, which then moves past it.
-fn take_number(bytes: &[u8], place: &mut Place) -> Result<u64, Refusal>
-    requires { place.old.at ≤ length bytes.now }
-    ensures tells { told result place.new.at ≡ at number_read bytes.now place.old.at }
-    ensures within { place.new.at ≤ length bytes.now }
-{
-    let start = place.at;
-    advance(place, read_number(&bytes[start..]))
-}
-
-// The value at the place, which then moves past it.
-fn take_value<K: Kind>(bytes: &[u8], place: &mut Place) -> Result<K::Value, Refusal>
-    requires { place.old.at ≤ length bytes.now }
-    ensures tells { told result place.new.at ≡ at K.Kind.reads bytes.now place.old.at }
-    ensures within { place.new.at ≤ length bytes.now }
-{
-    let start = place.at;
-    advance(place, K::read(&bytes[start..]))
 }
 
 // The event of an id with as many values, which stand at the place.
@@ -70,7 +57,7 @@ fn take_event<K: Kind>(
 {
     let mut event = Event::bare(K::nothing(), id);
     for _i in 0..count {
-        event.push(take_value::<K>(bytes, place)?);
+        event.push(take(bytes, place, |b: &[u8]| K::read(b))?);
     }
     Ok(event)
 }
@@ -123,12 +110,12 @@ impl<'a, K: Kind> Journal<'a, K> {
             place: &mut self.place,
             start,
         };
-        let id = take_number(bytes, guard.place)?;
+        let id = take(bytes, guard.place, |b: &[u8]| read_number(b))?;
         if id > u64::from(LAST_ID) {
             return Err(Layer::Journal.refusal(Reason::WildId, start));
         }
         let id = id as u32;
-        let count = take_number(bytes, guard.place)?;
+        let count = take(bytes, guard.place, |b: &[u8]| read_number(b))?;
         if count > most_values(id) as u64 {
             return Err(Layer::Journal.refusal(Reason::TooManyValues, start));
         }
