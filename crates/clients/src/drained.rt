@@ -35,6 +35,5 @@ pub fn drain_twice(
 ) -> Result<Drained<Option<u64>>, AllocError>
     ensures { IfOk result (λ d. (map says d.events.items ≡ only (take 32 others.now) (only (take 32 some.now) (ahead number_value journal.entry).waits)) × (d.ending ≡ (ahead number_value journal.entry).ends)) }
 {
-    let mut narrow = Narrow::new(Narrow::new(journal, some), others);
-    drain::<Numbers, _>(heap, &mut narrow)
+    drain::<Numbers, _>(heap, &mut Narrow::new(Narrow::new(journal, some), others))
 }

@@ -49,7 +49,6 @@ impl Page {
     pub(crate) fn into_bytes(self) -> Vec<u8>
         ensures { result.items ≡ written self }
     {
-        let Page { heap: _, bytes } = self;
-        bytes
+        self.bytes
     }
 }

@@ -4,14 +4,9 @@ use std::alloc::Global;
 use std::process::Abort;
 use std::test::Fail;
 
-// No method is chosen.
-fn every_method() -> Option<&'static [u16]> {
-    None
-}
-
 // A journal is listed as a text says.
 fn lists(rt: &impl Abort, heap: Global, journal: &[u8], text: &str) -> Result<(), Fail> {
-    let out = listing(heap, journal, every_method())?;
+    let out = listing(heap, journal, None)?;
     assert!(rt; out.as_slice() == text.as_bytes(), "{}", text);
     Ok(())
 }

@@ -30,8 +30,7 @@ impl<S> Narrow<S> {
     pub fn into_below(self) -> S
         ensures { result ≡ self.below }
     {
-        let Narrow { below, methods: _ } = self;
-        below
+        self.below
     }
 }
 
