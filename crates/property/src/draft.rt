@@ -12,6 +12,7 @@ use crate::table::*;
 use crate::words::*;
 
 // The cursor, a name that waits for its use, and the property so far.
+// Kept apart from the text, which each search is passed: the draft is handed on when the text's borrow is over.
 #[derive(Drop)]
 pub struct Draft {
     pub cursor: Cursor,
