@@ -112,6 +112,7 @@ pub(crate) fn decimal(digits: &[u8]) -> Option<u32>
 }
 
 // The number that digits write, where all over 65,535 stand as one.
+// Kept a number past the limit: such a piece is refused where it stands, so no method that is read has it.
 pub(crate) fn capped(digits: &[u8]) -> u32
     ensures { result ≡ most digits.now }
 {
