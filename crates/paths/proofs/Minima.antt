@@ -1,82 +1,84 @@
--- The least of a list of places, found from its front on.
-use Rattle.std.proofs.Common.{◌≡◌, ℕ, zero, suc, ◌+◌, ◌<◌, ◌≤◌, Bool, true, false, cond, leb, ◌⊎◌, List, [], ◌∷◌, ◌++◌, length, get_or, drop, Some, None, Decides, Option, sym, refl, ap, ◌∙◌, subst, inl, inr, arith}
-use Rattle.std.proofs.lemmas.List.{drop_more, drop_all}
-use Rattle.std.proofs.lemmas.Bool.Decides.{nat_tests}
-use Rattle.paths.specs.Paths.{slots_of, events_of, event_writes, state, Unwritten}
-use Rattle.paths.specs.Reads.{slot_reads, reads_in, exposed, lesser, least, Among, Least, flagged, OpenRead, FirstOpen}
-use Rattle.property.specs.declared.table.Event.{Event}
-use Rattle.property.specs.declared.table.Slot.{Slot}
+-- The least of a list of places, and where it is from.
+use Rattle.std.proofs.Common.{◌≡◌, ℕ, zero, suc, ◌<◌, ◌≤◌, Bool, true, false, cond, ◌⊎◌, List, [], ◌∷◌, ◌++◌, length, get_or, filter, min, Some, None, Decides, Option, sym, refl, ap, ◌∙◌, subst, inl, inr, arith}
+use Rattle.std.proofs.lemmas.Bool.{cases_lt}
+use Rattle.std.specs.List.{fold, cons_option, filter_map, flat_map}
+use Rattle.paths.specs.Paths.{events_of, state, Unwritten}
+use Rattle.paths.specs.Reads.{exposed, least, Among, OpenRead, FirstOpen}
 use Rattle.property.specs.declared.table.Statement.{Statement}
 
-lesser_none : (a : Option ℕ) → lesser a None ≡ a
-lesser_none None = refl
-lesser_none (Some n) = refl
+-- The smaller of two numbers, of which each may be missing.
+abbrev pub lesser : Option ℕ → Option ℕ → Option ℕ
+lesser None b = b
+lesser (Some n) None = Some n
+lesser (Some n) (Some m) = Some (min n m)
 
-min_assoc : (a b c : ℕ) → cond (leb (cond (leb a b) a b) c) (cond (leb a b) a b) c ≡ cond (leb a (cond (leb b c) b c)) a (cond (leb b c) b c)
-min_assoc a b c = grind (arith, nat_tests)
-
-pub lesser_assoc : (a b c : Option ℕ) → lesser (lesser a b) c ≡ lesser a (lesser b c)
+lesser_assoc : (a b c : Option ℕ) → lesser (lesser a b) c ≡ lesser a (lesser b c)
 lesser_assoc None b c = refl
 lesser_assoc (Some n) None c = refl
 lesser_assoc (Some n) (Some m) None = refl
-lesser_assoc (Some n) (Some m) (Some k) = ap Some (min_assoc n m k)
+lesser_assoc (Some n) (Some m) (Some k) = let e : min (min n m) k ≡ min n (min m k) = omega arith in ap Some e
 
-pub least_append : (xs ys : List ℕ) → least (xs ++ ys) ≡ lesser (least xs) (least ys)
+fold_from : (n m : ℕ) (ns : List ℕ) → fold min (min n m) ns ≡ min n (fold min m ns)
+fold_from n m [] = refl
+fold_from n m (k ∷ ns) =
+    let e : min (min n m) k ≡ min n (min m k) = omega arith in
+    ap (λ (i : ℕ). fold min i ns) e ∙ fold_from n (min m k) ns
+
+least_more : (n : ℕ) (ns : List ℕ) → least (n ∷ ns) ≡ lesser (Some n) (least ns)
+least_more n [] = refl
+least_more n (m ∷ ns) = ap Some (fold_from n m ns)
+
+least_append : (xs ys : List ℕ) → least (xs ++ ys) ≡ lesser (least xs) (least ys)
 least_append [] ys = refl
-least_append (x ∷ xs) ys = ap (lesser (Some x)) (least_append xs ys) ∙ sym (lesser_assoc (Some x) (least xs) (least ys))
+least_append (x ∷ xs) ys =
+    least_more x (xs ++ ys) ∙ (ap (lesser (Some x)) (least_append xs ys) ∙ (sym (lesser_assoc (Some x) (least xs) (least ys)) ∙ ap (λ (o : Option ℕ). lesser o (least ys)) (sym (least_more x xs))))
 
--- What is least among the first i and the rest is least among all.
-abbrev pub SoFar : {A : Type 0} → (List A → List ℕ) → List A → ℕ → Option ℕ → Type 0
-SoFar f xs i o = lesser o (least (f (drop i xs))) ≡ least (f xs)
+least_option : (o : Option ℕ) (ns : List ℕ) → least (cons_option o ns) ≡ lesser o (least ns)
+least_option None ns = refl
+least_option (Some n) ns = least_more n ns
 
-module _ {A : Type 0} (f : List A → List ℕ) (xs : List A) where
-  pub least_all : (i : ℕ) (o : Option ℕ) → length xs ≤ i → f [] ≡ [] → SoFar f xs i o → o ≡ least (f xs)
-  least_all i o h e s = sym (ap (λ (ys : List A). lesser o (least (f ys))) (drop_all i xs h) ∙ (ap (λ (ns : List ℕ). lesser o (least ns)) e ∙ lesser_none o)) ∙ s
+pub least_two : (o p : Option ℕ) → least (cons_option o (cons_option p [])) ≡ lesser o p
+least_two None None = refl
+least_two None (Some m) = refl
+least_two (Some n) None = refl
+least_two (Some n) (Some m) = refl
 
-  pub least_more : (i : ℕ) (d : A) (o p : Option ℕ) → i < length xs → SoFar f xs i o
-      → least (f (get_or xs i d ∷ drop (i + 1) xs)) ≡ lesser p (least (f (drop (i + 1) xs))) → SoFar f xs (i + 1) (lesser o p)
-  least_more i d o p h s e =
-      lesser_assoc o p (least (f (drop (i + 1) xs))) ∙ (ap (lesser o) (sym e ∙ ap (λ (ys : List A). least (f ys)) (sym (drop_more xs i d h))) ∙ s)
+-- The least of the leasts of some lists is the least of them together.
+pub least_flat : {A : Type 0} (f : A → List ℕ) (xs : List A) → least (filter_map (λ a. least (f a)) xs) ≡ least (flat_map f xs)
+least_flat f [] = refl
+least_flat f (x ∷ xs) =
+    least_option (least (f x)) (filter_map (λ a. least (f a)) xs) ∙ (ap (lesser (least (f x))) (least_flat f xs) ∙ sym (least_append (f x) (flat_map f xs)))
 
-pub slot_step : (x : ℕ) (s : Slot) (ss : List Slot) → least (reads_in x (s ∷ ss)) ≡ lesser (cond (slot_reads x s) (Some s.place) None) (least (reads_in x ss))
-slot_step x s ss = by (slot_reads x s)
+-- The answer is the least number of ns, and none exactly where ns is empty.
+abbrev Least : List ℕ → Option ℕ → Type 0
+Least ns None = ns ≡ []
+Least ns (Some n) = Among n ns × ((m : ℕ) → Among m ns → n ≤ m)
+
+min_either : (n k : ℕ) → (min n k ≡ n) ⊎ (min n k ≡ k)
+min_either n k = elim (cases_lt k n) [
+  | inl h ↦ (let e : min n k ≡ k = omega arith in inr e)
+  | inr h ↦ (let e : min n k ≡ n = omega arith in inl e)
+]
+
+least_fold : (n : ℕ) (ns : List ℕ) → Least (n ∷ ns) (Some (fold min n ns))
+least_fold n [] = (inl refl, λ m a. elim a [ inl z ↦ omega arith | inr z ↦ absurd z ])
+least_fold n (k ∷ ns) = step (least_fold (min n k) ns)
   where
-    by : (b : Bool) → least (cond b (s.place ∷ reads_in x ss) (reads_in x ss)) ≡ lesser (cond b (Some s.place) None) (least (reads_in x ss))
-    by true = refl
-    by false = refl
-
-pub event_step : (x : ℕ) (e : Event) (es : List Event) → event_writes x e ≡ false
-    → least (exposed x (e ∷ es)) ≡ lesser (least (reads_in x (slots_of e))) (least (exposed x es))
-event_step x e es w =
-    ap (λ (b : Bool). least (reads_in x (slots_of e) ++ cond b [] (exposed x es))) w ∙ least_append (reads_in x (slots_of e)) (exposed x es)
-
-pub event_last : (x : ℕ) (e : Event) (es : List Event) → event_writes x e ≡ true → least (exposed x (e ∷ es)) ≡ least (reads_in x (slots_of e))
-event_last x e es w =
-    ap (λ (b : Bool). least (reads_in x (slots_of e) ++ cond b [] (exposed x es))) w
-    ∙ (least_append (reads_in x (slots_of e)) [] ∙ lesser_none (least (reads_in x (slots_of e))))
-
-least_step : (n : ℕ) (ns : List ℕ) (o : Option ℕ) → Least ns o → Least (n ∷ ns) (lesser (Some n) o)
-least_step n ns None e = (inl refl, λ m a. elim a [ inl z ↦ omega arith | inr z ↦ absurd (subst (Among m) e z) ])
-least_step n ns (Some k) (a, least) = (pick, below)
-  where
-    pick : Among (cond (leb n k) n k) (n ∷ ns)
-    pick = which (leb n k)
+    step : Least (min n k ∷ ns) (Some (fold min (min n k) ns)) → Least (n ∷ (k ∷ ns)) (Some (fold min (min n k) ns))
+    step (a, low) = (pick a, below)
       where
-        which : (b : Bool) → Among (cond b n k) (n ∷ ns)
-        which true = inl refl
-        which false = inr a
+        pick : Among (fold min (min n k) ns) (min n k ∷ ns) → Among (fold min (min n k) ns) (n ∷ (k ∷ ns))
+        pick (inl e) = elim (min_either n k) [ inl z ↦ inl (e ∙ z) | inr z ↦ inr (inl (e ∙ z)) ]
+        pick (inr b) = inr (inr b)
 
-    below : (m : ℕ) → Among m (n ∷ ns) → cond (leb n k) n k ≤ m
-    below m (inl z) = grind (arith, nat_tests)
-    below m (inr z) = let y = least m z in grind (arith, nat_tests)
+        below : (m : ℕ) → Among m (n ∷ (k ∷ ns)) → fold min (min n k) ns ≤ m
+        below m (inl z) = let y = low (min n k) (inl refl) in omega arith
+        below m (inr (inl z)) = let y = low (min n k) (inl refl) in omega arith
+        below m (inr (inr z)) = low m (inr z)
 
-pub least_is : (ns : List ℕ) → Least ns (least ns)
+least_is : (ns : List ℕ) → Least ns (least ns)
 least_is [] = refl
-least_is (n ∷ ns) = least_step n ns (least ns) (least_is ns)
-
-pub statement_step : (f : List Bool) (x : ℕ) (s : Statement) (ss : List Statement)
-    → least (flagged f x (s ∷ ss)) ≡ lesser (least (cond (get_or f (state s.source) false) (exposed x (events_of s)) [])) (least (flagged f x ss))
-statement_step f x s ss = least_append (cond (get_or f (state s.source) false) (exposed x (events_of s)) []) (flagged f x ss)
+least_is (n ∷ ns) = least_fold n ns
 
 among_either : (n : ℕ) (xs ys : List ℕ) → Among n (xs ++ ys) → Among n xs ⊎ Among n ys
 among_either n [] ys a = inr a
@@ -92,44 +94,61 @@ among_right : (n : ℕ) (xs ys : List ℕ) → Among n ys → Among n (xs ++ ys)
 among_right n [] ys a = a
 among_right n (x ∷ xs) ys a = inr (among_right n xs ys a)
 
-among_cond : (n : ℕ) (b : Bool) (xs : List ℕ) → Among n (cond b xs []) → (b ≡ true) × Among n xs
-among_cond n true xs a = (refl, a)
-among_cond n false xs a = absurd a
+-- What the elements that pass a test give, one by one.
+module _ {A : Type 0} (give : A → List ℕ) (test : A → Bool) (n : ℕ) where
+  -- A place where an element gives the number.
+  abbrev GivenAt : List A → Type 0
+  GivenAt xs = (k : ℕ) × ((k < length xs) × ((d : A) → (test (get_or xs k d) ≡ true) × Among n (give (get_or xs k d))))
 
--- A place among the flagged reads is one of a statement whose flag is set.
-from_flagged : (f : List Bool) (x n : ℕ) (ss : List Statement) → Among n (flagged f x ss)
-    → (k : ℕ) × (k < length ss) × ((d : Statement) → (get_or f (state (get_or ss k d).source) false ≡ true) × Among n (exposed x (events_of (get_or ss k d))))
-from_flagged f x n [] a = absurd a
-from_flagged f x n (s ∷ ss) a = elim (among_either n (cond (get_or f (state s.source) false) (exposed x (events_of s)) []) (flagged f x ss) a) [
-  | inl b ↦ (let h : 0 < length (s ∷ ss) = omega arith in (0, h, λ _. among_cond n (get_or f (state s.source) false) (exposed x (events_of s)) b))
-  | inr b ↦ (let y = from_flagged f x n ss b in let y1 = y.1 in let h : suc y.0 < length (s ∷ ss) = omega arith in (suc y.0, h, y.2))
-]
+  one_on : (x : A) (xs : List A) → GivenAt xs → GivenAt (x ∷ xs)
+  one_on x xs y = let h : y.0 < length xs = y.1.0 in let z : suc y.0 < length (x ∷ xs) = omega arith in (suc y.0, (z, y.1.1))
 
-to_flagged : (f : List Bool) (x n k : ℕ) (d : Statement) (ss : List Statement) → k < length ss → get_or f (state (get_or ss k d).source) false ≡ true
-    → Among n (exposed x (events_of (get_or ss k d))) → Among n (flagged f x ss)
-to_flagged f x n k d [] h e a = absurd (omega arith)
-to_flagged f x n zero d (s ∷ ss) h e a =
-    among_left n (cond (get_or f (state s.source) false) (exposed x (events_of s)) []) (flagged f x ss)
-    (subst (λ (b : Bool). Among n (cond b (exposed x (events_of s)) [])) (sym e) a)
-to_flagged f x n (suc k) d (s ∷ ss) h e a =
-    among_right n (cond (get_or f (state s.source) false) (exposed x (events_of s)) []) (flagged f x ss) (to_flagged f x n k d ss (omega arith) e a)
+  first_given : (x : A) (xs : List A) → (b : Bool) → test x ≡ b → Among n (flat_map give (cond b (x ∷ filter test xs) (filter test xs)))
+      → (Among n (flat_map give (filter test xs)) → GivenAt xs) → GivenAt (x ∷ xs)
+  first_given x xs true e a later =
+      elim (among_either n (give x) (flat_map give (filter test xs)) a) [
+        | inl b ↦ (let h : 0 < length (x ∷ xs) = omega arith in (0, (h, λ _. (e, b))))
+        | inr b ↦ one_on x xs (later b)
+      ]
+  first_given x xs false e a later = one_on x xs (later a)
+
+  given_from : (xs : List A) → Among n (flat_map give (filter test xs)) → GivenAt xs
+  given_from [] a = absurd a
+  given_from (x ∷ xs) a = first_given x xs (test x) refl a (λ b. given_from xs b)
+
+  one_more : (x : A) (xs : List A) (b : Bool) → Among n (flat_map give (filter test xs)) → Among n (flat_map give (cond b (x ∷ filter test xs) (filter test xs)))
+  one_more x xs true a = among_right n (give x) (flat_map give (filter test xs)) a
+  one_more x xs false a = a
+
+  given_to : (k : ℕ) (d : A) (xs : List A) → k < length xs → test (get_or xs k d) ≡ true → Among n (give (get_or xs k d)) → Among n (flat_map give (filter test xs))
+  given_to k d [] h e a = absurd (omega arith)
+  given_to zero d (x ∷ xs) h e a =
+      subst (λ (b : Bool). Among n (flat_map give (cond b (x ∷ filter test xs) (filter test xs)))) (sym e) (among_left n (give x) (flat_map give (filter test xs)) a)
+  given_to (suc k) d (x ∷ xs) h e a = one_more x xs (test x) (given_to k d xs (omega arith) e a)
 
 module _ (ss : List Statement) (x : ℕ) (f : List Bool) (right : (q : ℕ) → Decides (get_or f q false) (Unwritten ss x q)) where
+  abbrev reads : Statement → List ℕ
+  reads s = exposed x (events_of s)
+
+  abbrev flag : Statement → Bool
+  flag s = get_or f (state s.source) false
+
   some_statement : Statement
   some_statement = record { source = 0; target = 0; events = []; span = 0 }
 
-  open_from : (n : ℕ) → Among n (flagged f x ss) → OpenRead ss x n
+  open_from : (n : ℕ) → Among n (flat_map reads (filter flag ss)) → OpenRead ss x n
   open_from n a =
-      let y = from_flagged f x n ss a in
-      record { place = y.0; within = y.1; reached = λ d. (right (state (get_or ss y.0 d).source)).0 (y.2 d).0; read = λ d. (y.2 d).1 }
+      let y = given_from reads flag n ss a in
+      record { place = y.0; within = y.1.0; reached = λ d. (right (state (get_or ss y.0 d).source)).0 (y.1.1 d).0; read = λ d. (y.1.1 d).1 }
 
-  open_to : (n : ℕ) → OpenRead ss x n → Among n (flagged f x ss)
+  open_to : (n : ℕ) → OpenRead ss x n → Among n (flat_map reads (filter flag ss))
   open_to n r =
-      to_flagged f x n r.place some_statement ss r.within ((right (state (get_or ss r.place some_statement).source)).1 (r.reached some_statement)) (r.read some_statement)
+      given_to reads flag n r.place some_statement ss r.within ((right (state (get_or ss r.place some_statement).source)).1 (r.reached some_statement)) (r.read some_statement)
 
-  opened : (o : Option ℕ) → Least (flagged f x ss) o → FirstOpen ss x o
+  opened : (o : Option ℕ) → Least (flat_map reads (filter flag ss)) o → FirstOpen ss x o
   opened None e = λ n r. subst (Among n) e (open_to n r)
   opened (Some n) (a, low) = (open_from n a, λ m r. low m (open_to m r))
 
-  pub first_open : (o : Option ℕ) → o ≡ least (flagged f x ss) → FirstOpen ss x o
-  first_open o e = subst (FirstOpen ss x) (sym e) (opened (least (flagged f x ss)) (least_is (flagged f x ss)))
+  pub first_open : (o : Option ℕ) → o ≡ least (filter_map (λ s. least (reads s)) (filter flag ss)) → FirstOpen ss x o
+  first_open o e =
+      subst (FirstOpen ss x) (sym (e ∙ least_flat reads (filter flag ss))) (opened (least (flat_map reads (filter flag ss))) (least_is (flat_map reads (filter flag ss))))

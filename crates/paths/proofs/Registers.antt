@@ -1,9 +1,9 @@
 -- Over registers: one more, which holds a constant or a variable.
-use Rattle.std.proofs.Common.{◌≡◌, ℕ, ◌+◌, ◌<◌, ◌≤◌, Bool, true, false, cond, leb, ◌⊎◌, List, length, get_or, Some, None, Option, sym, ap, ◌∙◌, subst, inl, inr, arith}
+use Rattle.std.proofs.Common.{◌≡◌, ℕ, ◌+◌, ◌<◌, true, false, ◌⊎◌, List, length, get_or, min, Some, None, Option, sym, ap, ◌∙◌, subst, inl, inr, arith}
 use Rattle.std.proofs.lemmas.List.{get_or_default}
 use Rattle.std.proofs.lemmas.Bool.{cases_lt, true≢false}
-use Rattle.std.proofs.lemmas.Bool.Decides.{nat_tests}
-use Rattle.paths.specs.Reads.{lesser, OpenRead, FirstOpen, Variable, FirstOf}
+use Rattle.paths.proofs.Minima.{lesser}
+use Rattle.paths.specs.Reads.{OpenRead, FirstOpen, Variable, FirstOf}
 use Rattle.property.specs.Views.{is_constant}
 use Rattle.property.specs.declared.table.Register.{Register}
 use Rattle.property.specs.declared.table.Statement.{Statement}
@@ -51,14 +51,13 @@ module _ (ss : List Statement) (gs : List Register) (i : ℕ) where
     (a.0, step a.0 a.1, a.2, a.3),
     λ x m l w r. elim (below x l) [ inl k ↦ f x m k w r | inr k ↦ absurd (g m (moved x m k r)) ],
   )
-  variable_more (Some n) (Some m) v (a, f) g = (pick (leb n m), low)
-    where
-      pick : (b : Bool) → (x : ℕ) × (x < i + 1) × Variable gs x × OpenRead ss x (cond b n m)
-      pick true = (a.0, step a.0 a.1, a.2, a.3)
-      pick false = (i, here, v, g.0)
-
-      low : (x k : ℕ) → x < i + 1 → Variable gs x → OpenRead ss x k → cond (leb n m) n m ≤ k
-      low x k l w r = elim (below x l) [
-        | inl y ↦ (let z = f x k y w r in grind (arith, nat_tests))
-        | inr y ↦ (let z = g.1 k (moved x k y r) in grind (arith, nat_tests))
-      ]
+  variable_more (Some n) (Some m) v (a, f) g = (
+    elim (cases_lt m n) [
+      | inl k ↦ (let e : min n m ≡ m = omega arith in (i, here, v, subst (OpenRead ss i) (sym e) g.0))
+      | inr k ↦ (let e : min n m ≡ n = omega arith in (a.0, step a.0 a.1, a.2, subst (OpenRead ss a.0) (sym e) a.3))
+    ],
+    λ x k l w r. elim (below x l) [
+      | inl y ↦ (let z = f x k y w r in omega arith)
+      | inr y ↦ (let z = g.1 k (moved x k y r) in omega arith)
+    ],
+  )

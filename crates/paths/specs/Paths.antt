@@ -1,6 +1,6 @@
 -- Paths of statements on which a register is not written, and the reads of a statement.
-use Rattle.std.specs.Prelude.{◌≡◌, ℕ, suc, ◌<◌, Bool, true, false, cond, List, [], ◌∷◌, length, get_or, take, ◌==◌, nat_lt, slice_index_or}
-use Rattle.property.specs.Words.{some}
+use Rattle.std.specs.Prelude.{◌≡◌, ℕ, suc, ◌<◌, Bool, true, false, cond, List, [], ◌∷◌, length, get_or, take, min, ◌==◌, slice_index_or}
+use Rattle.std.specs.List.{list_any}
 use Rattle.property.specs.declared.table.Event.{Event}
 use Rattle.property.specs.declared.table.Event.TheVariants as events
 use Rattle.property.specs.declared.table.Pattern.{Pattern}
@@ -18,29 +18,30 @@ pattern_writes x (patterns.Differs r) = false
 abbrev pub slot_writes : ℕ → Slot → Bool
 slot_writes x s = pattern_writes x s.pattern
 
--- The smaller of two numbers.
-abbrev pub fewer : ℕ → ℕ → ℕ
-fewer n m = cond (nat_lt n m) n m
-
 -- The patterns of an event that count, and the events of a statement.
 abbrev pub slots_of : Event → List Slot
 slots_of events.Any = []
-slots_of (events.Calls c) = take (fewer c.arity 5) c.slots
+slots_of (events.Calls c) = take (min c.arity 5) c.slots
 slots_of (events.Returns a) = a.slot ∷ []
 
 abbrev pub events_of : Statement → List Event
-events_of s = take (fewer s.span 4) s.events
+events_of s = take (min s.span 4) s.events
 
 -- Whether an event, and a statement, writes the register x.
 abbrev pub event_writes : ℕ → Event → Bool
-event_writes x e = some (slot_writes x) (slots_of e)
+event_writes x e = list_any (slot_writes x) (slots_of e)
 
 abbrev pub statement_writes : ℕ → Statement → Bool
-statement_writes x s = some (event_writes x) (events_of s)
+statement_writes x s = list_any (event_writes x) (events_of s)
+
+-- The elements up to and with the first that passes a test.
+abbrev pub through : {A : Type 0} → (A → Bool) → List A → List A
+through f [] = []
+through f (x ∷ xs) = x ∷ cond (f x) [] (through f xs)
 
 -- The state of a number: all from 16 on are one.
 abbrev pub state : ℕ → ℕ
-state n = fewer n 16
+state n = min n 16
 
 -- Some path of statements from `start` reaches the state with no write of the register x.
 pub data Unwritten (ss : List Statement) (x : ℕ) : ℕ → Type 0 where

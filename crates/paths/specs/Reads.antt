@@ -1,6 +1,7 @@
 -- The reads of a register in a statement that no earlier event of the statement writes, and the least of them.
-use Rattle.std.specs.Prelude.{◌≡◌, ℕ, ◌<◌, ◌≤◌, Bool, false, cond, ◌⊎◌, List, [], ◌∷◌, ◌++◌, length, get_or, Some, None, Option, ◌==◌, nat_le, slice_index_or}
-use Rattle.paths.specs.Paths.{slots_of, events_of, event_writes, state, Unwritten}
+use Rattle.std.specs.Prelude.{◌≡◌, ℕ, ◌<◌, ◌≤◌, Bool, false, cond, ◌⊎◌, List, [], ◌∷◌, length, get_or, min, Some, None, Option, ◌==◌, slice_index_or}
+use Rattle.std.specs.List.{filter_map, flat_map, reduce}
+use Rattle.paths.specs.Paths.{slots_of, events_of, event_writes, through, state, Unwritten}
 use Rattle.property.specs.Views.{is_constant}
 use Rattle.property.specs.declared.table.Event.{Event}
 use Rattle.property.specs.declared.table.Pattern.{Pattern}
@@ -16,43 +17,25 @@ pattern_reads x (patterns.Write r) = false
 pattern_reads x (patterns.Same r) = r == x
 pattern_reads x (patterns.Differs r) = r == x
 
-abbrev pub slot_reads : ℕ → Slot → Bool
-slot_reads x s = pattern_reads x s.pattern
+-- The place of a pattern that reads x.
+abbrev pub read_place : ℕ → Slot → Option ℕ
+read_place x s = cond (pattern_reads x s.pattern) (Some s.place) None
 
 -- The places of the patterns that read x.
 abbrev pub reads_in : ℕ → List Slot → List ℕ
-reads_in x [] = []
-reads_in x (s ∷ ss) = cond (slot_reads x s) (s.place ∷ reads_in x ss) (reads_in x ss)
+reads_in x ss = filter_map (read_place x) ss
 
 -- The places of the reads of x in events, up to and with the first event that writes x: an event reads before it writes.
 abbrev pub exposed : ℕ → List Event → List ℕ
-exposed x [] = []
-exposed x (e ∷ es) = reads_in x (slots_of e) ++ cond (event_writes x e) [] (exposed x es)
-
--- The smaller of two numbers, of which each may be missing.
-abbrev pub lesser : Option ℕ → Option ℕ → Option ℕ
-lesser None b = b
-lesser (Some n) None = Some n
-lesser (Some n) (Some m) = Some (cond (nat_le n m) n m)
+exposed x es = flat_map (λ e. reads_in x (slots_of e)) (through (event_writes x) es)
 
 abbrev pub least : List ℕ → Option ℕ
-least [] = None
-least (n ∷ ns) = lesser (Some n) (least ns)
+least ns = reduce min ns
 
 -- n is one of ns.
 abbrev pub Among : ℕ → List ℕ → Type 0
 Among n [] = ⊥
 Among n (m ∷ ns) = (n ≡ m) ⊎ Among n ns
-
--- The answer is the least number of ns, and none exactly where ns is empty.
-abbrev pub Least : List ℕ → Option ℕ → Type 0
-Least ns None = ns ≡ []
-Least ns (Some n) = Among n ns × ((m : ℕ) → Among m ns → n ≤ m)
-
--- The reads of x that count in statements whose source has its flag set.
-abbrev pub flagged : List Bool → ℕ → List Statement → List ℕ
-flagged f x [] = []
-flagged f x (s ∷ ss) = cond (slice_index_or f (state s.source) false) (exposed x (events_of s)) [] ++ flagged f x ss
 
 -- At place n the register x is read in a statement, before any write of it there, and some path reaches the statement with no write of x.
 pub record OpenRead (ss : List Statement) (x n : ℕ) : Type 0 where

@@ -1,33 +1,45 @@
 // Paths of statements, the reads that one reaches unwritten, and the reading of a property text whole.
 #![tactic(auto)]
 
-ghost use Rattle.std.specs.Prelude.{◌≡◌, ℕ, ◌<◌, ◌≤◌, Bool, true, false, [], length, get_or, if◌then◌else◌, Some, None, Decides, MatchBool, slice_index_or};
-ghost use Rattle.paths.specs.Paths.{Unwritten, Sound, Closed, unset, slot_writes, event_writes, statement_writes, fewer as least_of, state as state_of};
-ghost use Rattle.paths.specs.Paths.{slots_of, events_of};
-ghost use Rattle.paths.specs.Reads.{slot_reads, reads_in, exposed, least, lesser as lesser_of, flagged, FirstOpen, FirstOf};
-ghost use Rattle.property.specs.Words.{some};
+ghost use Rattle.std.specs.Prelude.{◌≡◌, ℕ, true, false, ◌&&◌, not, [], length, get_or, set, filter, Decides, MatchOption};
+ghost use Rattle.std.specs.List.{cons_option, filter_map};
+ghost use Rattle.paths.specs.Paths.{Unwritten, Sound, Closed, unset, slot_writes, event_writes, statement_writes, state as state_of};
+ghost use Rattle.paths.specs.Paths.{slots_of, events_of, through};
+ghost use Rattle.paths.specs.Reads.{read_place as place_of, reads_in, exposed, least, FirstOpen, FirstOf};
 
 use property::table::*;
+use std::slice;
 
 pub mod text;
 
-// The smaller of two numbers.
-fn fewer(n: usize, m: usize) -> usize
-    ensures { result ≡ least_of n m }
-{
-    if n < m { n } else { m }
-}
-
-// The state of a number.
+// The state of a number: all from 16 on are one.
 fn state(n: usize) -> usize
     ensures { result ≡ state_of n }
 {
-    fewer(n, 16)
+    n.min(16)
+}
+
+// The patterns of an event that count.
+fn slots(event: &Event) -> &[Slot]
+    ensures { result.now ≡ slots_of event.now }
+{
+    match event {
+        Event::Any => &[],
+        Event::Calls(c) => &c.slots[..c.arity.min(5)],
+        Event::Returns(a) => slice::from_ref(&a.slot),
+    }
+}
+
+// The events of a statement that count.
+fn events(statement: &Statement) -> &[Event]
+    ensures { result.now ≡ events_of statement.now }
+{
+    &statement.events[..statement.span.min(4)]
 }
 
 // Whether a pattern writes a register.
-fn writes(slot: Slot, x: usize) -> bool
-    ensures { result ≡ slot_writes x slot }
+fn writes(slot: &Slot, x: usize) -> bool
+    ensures { result ≡ slot_writes x slot.now }
 {
     match slot.pattern {
         Pattern::Write(r) => r == x,
@@ -35,215 +47,142 @@ fn writes(slot: Slot, x: usize) -> bool
     }
 }
 
-// Whether one of some patterns writes a register.
-fn any_writes(slots: &[Slot], x: usize) -> bool
-    ensures { result ≡ some (slot_writes x) slots.now }
-{
-    for s in slots {
-        if writes(*s, x) {
-            return true;
-        }
-    }
-    false
-}
-
 // Whether an event writes a register.
-fn event_written(event: Event, x: usize) -> bool
-    ensures { result ≡ event_writes x event }
+fn event_written(event: &Event, x: usize) -> bool
+    ensures { result ≡ event_writes x event.now }
 {
-    match event {
-        Event::Any => false,
-        Event::Calls(c) => {
-            let n = fewer(c.arity, 5);
-            let slots = c.slots;
-            any_writes(&slots[0..n], x)
-        }
-        Event::Returns(a) => writes(a.slot, x),
-    }
-}
-
-// Whether one of some events writes a register.
-fn any_event(events: &[Event], x: usize) -> bool
-    ensures { result ≡ some (event_writes x) events.now }
-{
-    for e in events {
-        if event_written(*e, x) {
-            return true;
-        }
-    }
-    false
+    slots(event).iter().any(|s| writes(s, x))
 }
 
 // Whether a statement writes a register.
-fn statement_written(statement: Statement, x: usize) -> bool
-    ensures { result ≡ statement_writes x statement }
+fn statement_written(statement: &Statement, x: usize) -> bool
+    ensures { result ≡ statement_writes x statement.now }
 {
-    let n = fewer(statement.span, 4);
-    let events = statement.events;
-    any_event(&events[0..n], x)
+    events(statement).iter().any(|e| event_written(e, x))
 }
 
-// Whether a statement leads from a state that was seen to one that was not, with no write.
-fn adds(s: Statement, x: usize, seen: &[bool]) -> bool
-    requires { length seen.now ≡ 17 }
-    ensures { Decides result ((statement_writes x s ≡ false) × (slice_index_or seen.now (state_of s.source) false ≡ true)
-        × (slice_index_or seen.now (state_of s.target) false ≡ false)) }
+// The place of a pattern that reads a register.
+fn read_place(slot: &Slot, x: usize) -> Option<usize>
+    ensures { result ≡ place_of x slot.now }
 {
-    let (from, to) = (state(s.source), state(s.target));
-    !statement_written(s, x) && seen[from] && !seen[to]
-}
-
-// Adds one state that a statement leads to; false where there is none.
-fn widen(statements: &[Statement], x: usize, seen: &mut [bool]) -> bool
-    requires long { length seen.old ≡ 17 }
-    requires sound { Sound statements.now x seen.old }
-    ensures sound { Sound statements.now x seen.new }
-    ensures kept { (q : ℕ) → slice_index_or seen.old q false ≡ true → slice_index_or seen.new q false ≡ true }
-    ensures cases { MatchBool result (unset seen.new < unset seen.old) (Closed statements.now x seen.new) }
-{
-    for s in statements {
-        if adds(*s, x, seen) {
-            let to = state(s.target);
-            seen[to] = true;
-            return true;
-        }
+    match slot.pattern {
+        Pattern::Same(r) | Pattern::Differs(r) if r == x => Some(slot.place),
+        _ => None,
     }
-    false
+}
+
+// The least place at which an event reads a register.
+fn event_read(event: &Event, x: usize) -> Option<usize>
+    ensures { result ≡ least (reads_in x (slots_of event.now)) }
+{
+    slots(event).iter().filter_map(|s| read_place(s, x)).min()
+}
+
+// The events up to and with the first that writes a register.
+fn until_written(events: &[Event], x: usize) -> &[Event]
+    ensures { result.now ≡ through (event_writes x) events.now }
+{
+    match events.iter().position(|e| event_written(e, x)) {
+        Some(i) => &events[..i + 1],
+        None => events,
+    }
+}
+
+// The least place at which a statement reads a register that no earlier event of it writes.
+fn statement_read(statement: &Statement, x: usize) -> Option<usize>
+    ensures { result ≡ least (exposed x (events_of statement.now)) }
+{
+    let heard = until_written(events(statement), x);
+    heard.iter().filter_map(|e| event_read(e, x)).min()
+}
+
+// The states that are found to be reached with no write of a register.
+#[derive(Clone, Copy)]
+struct Reached {
+    seen: [bool; 17],
+    ghost whole: { length seen ≡ 17 },
+}
+
+impl Reached {
+    // No state but the start.
+    fn start() -> Reached
+        ensures { (q : ℕ) → Decides (get_or result.seen q false) (q ≡ 0) }
+    {
+        let mut seen = [false; 17];
+        seen[0] = true;
+        Reached { seen }
+    }
+
+    // Whether a state is among them.
+    fn has(&self, q: usize) -> bool
+        ensures { result ≡ get_or self.now.seen (state_of q) false }
+    {
+        self.seen[state(q)]
+    }
+
+    // Adds a state.
+    fn add(&mut self, q: usize)
+        ensures { self.new.seen ≡ set self.old.seen (state_of q) true }
+    {
+        self.seen[state(q)] = true;
+    }
+
+    // Whether a statement leads from one of them to another state, with no write.
+    fn leaves(&self, s: &Statement, x: usize) -> bool
+        ensures { result ≡ (not (statement_writes x s.now)
+            && (get_or self.now.seen (state_of s.now.source) false && not (get_or self.now.seen (state_of s.now.target) false))) }
+    {
+        !statement_written(s, x) && self.has(s.source) && !self.has(s.target)
+    }
+
+    // A state to which a statement leads from them with no write, and which is not among them.
+    fn beyond(&self, statements: &[Statement], x: usize) -> Option<usize>
+        ensures { MatchOption result (Closed statements.now x self.now.seen)
+            (λ q. (get_or self.now.seen (state_of q) false ≡ false) × (Sound statements.now x self.now.seen → Unwritten statements.now x (state_of q))) }
+    {
+        let found = statements.iter().find(|s| self.leaves(s, x))?;
+        Some(found.target)
+    }
+
+    // The least place at which a statement that leaves one of them reads a register that no earlier event of it writes.
+    fn first_read(&self, statements: &[Statement], x: usize) -> Option<usize>
+        ensures { result ≡ least (filter_map (λ s. least (exposed x (events_of s))) (filter (λ s. get_or self.now.seen (state_of s.source) false) statements.now)) }
+    {
+        let from = statements.iter().filter(|s| self.has(s.source));
+        from.filter_map(|s| statement_read(s, x)).min()
+    }
 }
 
 // The states that a path of statements reaches with no write of a register.
-pub(crate) fn unwritten(statements: &[Statement], x: usize) -> [bool; 17]
-    ensures { (q : ℕ) → Decides (slice_index_or result q false) (Unwritten statements.now x q) }
+fn unwritten(statements: &[Statement], x: usize) -> Reached
+    ensures { (q : ℕ) → Decides (get_or result.seen q false) (Unwritten statements.now x q) }
 {
-    let mut seen = [false; 17];
-    seen[0] = true;
-    while widen(statements, x, &mut seen) {}
-    seen
+    let mut reached = Reached::start();
+    while let Some(q) = reached.beyond(statements, x) {
+        reached.add(q);
+    }
+    reached
+}
+
+// The least place at which a register is read that some path of statements has not written by then.
+fn first_read(statements: &[Statement], x: usize) -> Option<usize>
+    ensures { FirstOpen statements.now x result }
+{
+    unwritten(statements, x).first_read(statements, x)
 }
 
 // The smaller of two numbers, of which each may be missing.
 fn lesser(a: Option<usize>, b: Option<usize>) -> Option<usize>
-    ensures { result ≡ lesser_of a b }
+    ensures { result ≡ least (cons_option a (cons_option b [])) }
 {
-    match (a, b) {
-        (Some(n), Some(m)) => {
-            if n <= m {
-                return Some(n);
-            }
-            Some(m)
-        }
-        (None, b) => b,
-        (a, None) => a,
-    }
-}
-
-// Whether a pattern reads a register.
-fn reads(slot: Slot, x: usize) -> bool
-    ensures { result ≡ slot_reads x slot }
-{
-    match slot.pattern {
-        Pattern::Same(r) => r == x,
-        Pattern::Differs(r) => r == x,
-        _ => false,
-    }
-}
-
-// The place of a pattern that reads a register.
-fn read_place(slot: Slot, x: usize) -> Option<usize>
-    ensures { result ≡ (if slot_reads x slot then Some slot.place else None) }
-{
-    if reads(slot, x) {
-        return Some(slot.place);
-    }
-    None
-}
-
-// The least place of the patterns that read a register.
-fn first_in(slots: &[Slot], x: usize) -> Option<usize>
-    ensures { result ≡ least (reads_in x slots.now) }
-{
-    let mut best = None;
-    for s in slots {
-        best = lesser(best, read_place(*s, x));
-    }
-    best
-}
-
-// The least place at which an event reads a register.
-fn event_read(event: Event, x: usize) -> Option<usize>
-    ensures { result ≡ least (reads_in x (slots_of event)) }
-{
-    match event {
-        Event::Any => None,
-        Event::Calls(c) => {
-            let n = fewer(c.arity, 5);
-            let slots = c.slots;
-            first_in(&slots[0..n], x)
-        }
-        Event::Returns(a) => read_place(a.slot, x),
-    }
-}
-
-// The least place at which events read a register that no earlier one writes.
-fn first_exposed(events: &[Event], x: usize) -> Option<usize>
-    ensures { result ≡ least (exposed x events.now) }
-{
-    let mut best = None;
-    for e in events {
-        best = lesser(best, event_read(*e, x));
-        if event_written(*e, x) {
-            return best;
-        }
-    }
-    best
-}
-
-// The least place at which a statement reads a register that no earlier event of it writes.
-fn first_of(statement: Statement, x: usize) -> Option<usize>
-    ensures { result ≡ least (exposed x (events_of statement)) }
-{
-    let n = fewer(statement.span, 4);
-    let events = statement.events;
-    first_exposed(&events[0..n], x)
-}
-
-// The same, where the flag of the statement's source is set.
-fn first_if(statement: Statement, x: usize, seen: &[bool]) -> Option<usize>
-    requires { length seen.now ≡ 17 }
-    ensures { result ≡ least (if get_or seen.now (state_of statement.source) false then exposed x (events_of statement) else []) }
-{
-    let from = state(statement.source);
-    if seen[from] {
-        return first_of(statement, x);
-    }
-    None
-}
-
-// The least of these places over statements.
-fn first_flagged(statements: &[Statement], x: usize, seen: &[bool]) -> Option<usize>
-    requires { length seen.now ≡ 17 }
-    ensures { result ≡ least (flagged seen.now x statements.now) }
-{
-    let mut best = None;
-    for s in statements {
-        best = lesser(best, first_if(*s, x, seen));
-    }
-    best
-}
-
-// The least place at which a register is read that some path of statements has not written by then.
-pub(crate) fn first_read(statements: &[Statement], x: usize) -> Option<usize>
-    ensures { FirstOpen statements.now x result }
-{
-    let seen = unwritten(statements, x);
-    first_flagged(statements, x, &seen)
+    a.into_iter().chain(b).min()
 }
 
 // The least place at which a variable is read that some path of statements has not written by then.
 pub(crate) fn unwritten_read(statements: &[Statement], registers: &[Register]) -> Option<usize>
     ensures { FirstOf statements.now registers.now (length registers.now) result }
 {
-    let mut best = None;
+    let mut best: Option<usize> = None;
     for (x, g) in registers.iter().enumerate() {
         if let Register::Variable(_) = g {
             best = lesser(best, first_read(statements, x));

@@ -14,11 +14,8 @@ pub fn read(heap: Global, text: &[u8], draft: &mut Draft) -> Result<(), Failure>
     ensures { MatchResult result (λ _. Written text.now draft.new) (λ e. Refuses text.now e × (draft.new ≡ draft.old)) }
 {
     let mut found = Draft::new(heap);
-    match property::text::read(heap, text, &mut found) {
-        Ok(_) => {}
-        Err(e) => return Err(e),
-    }
-    if let Some(place) = unwritten_read(found.statements.as_slice(), found.registers.as_slice()) {
+    property::text::read(heap, text, &mut found)?;
+    if let Some(place) = unwritten_read(&found.statements, &found.registers) {
         return Err(Failure::At(Flaw {
             reason: TextReason::UnwrittenRead,
             place,

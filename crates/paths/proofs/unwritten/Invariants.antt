@@ -1,9 +1,9 @@
-use Rattle.std.proofs.Common.{◌≡◌, true, false, length, get_or}
+use Rattle.std.proofs.Common.{◌≡◌, true, false, get_or}
 use Rattle.paths.specs.Paths.{Sound, unset}
 use Rattle.paths.proofs.unwritten.Given as goal
 
-abbrev pub invariant-loop : goal.invariant-loop
-invariant-loop l = (length l.seen ≡ 17) × Sound l.statements l.x l.seen × (get_or l.seen 0 false ≡ true)
+abbrev pub invariant-loop-q : goal.invariant-loop-q
+invariant-loop-q l = record { sound : Sound l.statements l.x l.reached.seen; begun : get_or l.reached.seen 0 false ≡ true }
 
-abbrev pub decreases-loop : goal.decreases-loop
-decreases-loop l = unset l.seen
+abbrev pub decreases-loop-q : goal.decreases-loop-q
+decreases-loop-q l = unset l.reached.seen

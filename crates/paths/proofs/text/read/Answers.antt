@@ -9,8 +9,7 @@ both ss ts gs hs o e f x =
     subst (λ (ys : List Statement). FirstOf ys hs (length hs) o) e (subst (λ (ys : List Register). FirstOf ss ys (length ys) o) f x)
 
 pub returns-in-Some : goal.returns-in-Some
-returns-in-Some c =
-    (inr (refl, (c.read.new.draft, c.in-Ok.ensures, both _ _ _ _ (Some c.in-Some.place) c.as_slice.ensures.value c.as_slice-2.ensures.value c.in-Some.ensures)), refl)
+returns-in-Some c = (inr (refl, (c.read.new.draft, c.in_ok-read.ensures, both _ _ _ _ (Some c.in-Some.place) c.deref.ensures.value c.deref-2.ensures.value c.in-Some.ensures)), refl)
 
 pub returns : goal.returns
-returns c = (c.in-Ok.ensures, both _ _ _ _ None c.as_slice.ensures.value c.as_slice-2.ensures.value c.in_default.ensures)
+returns c = (c.in_ok-read.ensures, both _ _ _ _ None c.deref.ensures.value c.deref-2.ensures.value c.in_default.ensures)
