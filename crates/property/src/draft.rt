@@ -12,6 +12,7 @@ use crate::table::*;
 use crate::words::*;
 
 // The cursor, a name that waits for its use, and the property so far.
+// Kept apart from the text, which each search is passed: the draft is handed on when the text's borrow is over.
 #[derive(Drop)]
 pub struct Draft {
     pub cursor: Cursor,
@@ -62,7 +63,7 @@ impl Draft {
         !is_start(w) && !is_error(w) && self.lacks(text, w)
     }
 
-    // The number of a state, which is the next one where it was not written yet.
+    // The number of a state, which is the next one where it was not written yet, and 16 for all past the fifteenth.
     pub(crate) fn state_number(&self, text: &[u8], w: &[u8]) -> usize
         ensures { result ≡ state.state_number (sofar text.now self.now).others w.now }
     {
@@ -75,7 +76,7 @@ impl Draft {
         2 + self.other(text, w).unwrap_or(self.others.len()).min(14)
     }
 
-    // The number and the arity of the method of a name, 0 where none is declared.
+    // The number and the arity of the method of a name, 0 where none is declared: such a piece is refused where it stands.
     pub(crate) fn called(&self, text: &[u8], w: &[u8]) -> (u32, usize)
         ensures { let m = state.method_of (sofar text.now self.now) w.now in (result.0 ≡ m.number) × (result.1 ≡ m.arity) }
     {

@@ -99,7 +99,7 @@ fn read_any(heap: Global, text: &[u8]) -> Result<Draft, Failure>
         draft.advance(text, found)?;
         reader.place = found.name.to;
     }
-    draft.close(text)?;
+    draft.close()?;
     if !routed(draft.statements.as_slice()) {
         let place = text.len();
         return Err(Failure::At(Flaw {
