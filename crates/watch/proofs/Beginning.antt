@@ -1,5 +1,5 @@
 -- What making a watch and a begin do to the ledger that it shows.
-use Rattle.std.proofs.Common.{◌≡◌, ℕ, ◌+◌, ◌*◌, ◌<◌, ◌≤◌, true, false, List, map, length, Some, None, vec_items, vec_len, sym, refl, ap, ◌∙◌, subst, arith, Bor}
+use Rattle.std.proofs.Common.{◌≡◌, ℕ, ◌+◌, ◌*◌, ◌<◌, ◌≤◌, List, map, length, Some, None, Ok, Err, vec_items, vec_len, sym, refl, ap, ◌∙◌, subst, arith, Bor}
 use Rattle.std.proofs.lemmas.List.{length-map}
 use Rattle.kinds.specs.declared.phase.Phase.TheVariants as phases
 use Rattle.kinds.specs.declared.refusal.Layer.TheVariants.{Watch}
@@ -15,6 +15,7 @@ use Rattle.topl.proofs.Refusing.{refusing}
 use Rattle.engine.specs.declared.property.Table.{Table}
 use Rattle.engine.specs.Meant.{meant}
 use Rattle.engine.specs.declared.state.State.{State}
+use Rattle.engine.specs.declared.rows.Unsuited.{Unsuited}
 use Rattle.engine.specs.Opening.{Opens}
 use Rattle.watch.specs.declared.held.Held.{Held}
 use Rattle.watch.specs.declared.held.Stage.{Stage}
@@ -31,7 +32,7 @@ lent_same : (x y : Bor Table) → ◌≡◌ {A = Stage} (Running x) (Running y) 
 lent_same x y e = let same : x ≡ y = cc in ap (λ (z : Bor Table). meant z.now) same
 
 -- a new watch shows the fresh ledger
-pub made : {V : Type 0} (class : V → Class) (s : State V) (board book : ℕ) → vec_len s.board ≡ board → length (vec_items s.book.entries) ≡ book →
+pub made : {V : Type 0} (class : V → Class) (s : State V) (board book : ℕ) → vec_len s.grid.board ≡ board → length (vec_items s.grid.book.entries) ≡ book →
     Agrees class s (record { stage = Blank; judged = 0 }) (fresh board book)
 made class s board book a b = record {
   phase = refl;
@@ -50,7 +51,7 @@ made class s board book a b = record {
 
 module _ {V : Type 0} (class : V → Class) (s : State V) (h : Held) (l : Ledger) (sh : Agrees class s h l) where
   pub reasons_same : (P : T.Table) (values : List V) (given wanted cap : ℕ) → given ≡ length values → wanted ≡ length P.constants →
-      opening_reason (phase_of h.stage) (vec_len s.board) (length (vec_items s.book.entries)) given wanted cap ≡ begin_reason l P (map class values) cap
+      opening_reason (phase_of h.stage) (vec_len s.grid.board) (length (vec_items s.grid.book.entries)) given wanted cap ≡ begin_reason l P (map class values) cap
   reasons_same P values given wanted cap g w =
       λ j. opening_reason (sh.phase j) (sh.board j) (sh.book j) ((g ∙ sym (length-map values class)) j) (w j) cap
 
@@ -63,15 +64,15 @@ module _ {V : Type 0} (class : V → Class) (s : State V) (h : Held) (l : Ledger
     fits : (l.phase ≡ phases.Blank) × (((0 < cap) × (cap ≤ 64)) × ((length (map class values) ≡ length (meant x.now).constants) × ((40 * cap + 64 ≤ l.board) × (0 < l.book))))
     fits = (refusing.0 l.phase l.board l.book (length (map class values)) (length (meant x.now).constants) cap).is_none.0 free
 
-    pub begin_suits : (t : State V) → Opens class s t (meant x.now) values cap false → ⊥
-    begin_suits t o =
+    pub begin_suits : (t : State V) (u : Unsuited) → Opens class s t (meant x.now) values cap (Err u) → ⊥
+    begin_suits t u o =
         let f = fits in
         let a = length-map values class in
-        let b : length (vec_items s.book.entries) ≡ l.book = sh.book in
-        let d : vec_len s.board ≡ l.board = sh.board in
+        let b : length (vec_items s.grid.book.entries) ≡ l.book = sh.book in
+        let d : vec_len s.grid.board ≡ l.board = sh.board in
         o.1 (omega (arith, f.1.0.0), f.1.0.1, sym f.1.1.0 ∙ a, omega (arith, f.1.1.1.0), omega (arith, f.1.1.1.1))
 
-    pub begin_runs : (t : State V) → T.Lawful (meant x.now) → Opens class s t (meant x.now) values cap true →
+    pub begin_runs : (t : State V) → T.Lawful (meant x.now) → Opens class s t (meant x.now) values cap (Ok tt) →
         (m : Ledger) × Agrees class t (in_stage (Running x) h) m × Begins l (meant x.now) (map class values) cap (m, begun)
     begin_runs t law o =
         let P = meant x.now in

@@ -55,11 +55,11 @@ module _ {V : Type 0} (class : V → Class) (s : State V) (h : Held) (l : Ledger
     means = subst (Means l) run sh.sound
 
     -- the list is steady at the rows' own bounds
-    steady : Steady l.table (registers_of l) s.cap (room_of (vec_items s.book.entries)) l.judged
+    steady : Steady l.table (registers_of l) s.grid.cap (room_of (vec_items s.grid.book.entries)) l.judged
     steady =
-        let a : l.cap ≡ s.cap = sym (sh.cap run) in
-        let b : min l.book 16384 ≡ room_of (vec_items s.book.entries) = ap (λ (n : ℕ). min n 16384) (sym sh.book) in
-        subst (λ (n : ℕ). Steady l.table (registers_of l) s.cap n l.judged) b (subst (λ (n : ℕ). Steady l.table (registers_of l) n (min l.book 16384) l.judged) a means.1)
+        let a : l.cap ≡ s.grid.cap = sym (sh.cap run) in
+        let b : min l.book 16384 ≡ room_of (vec_items s.grid.book.entries) = ap (λ (n : ℕ). min n 16384) (sym sh.book) in
+        subst (λ (n : ℕ). Steady l.table (registers_of l) s.grid.cap n l.judged) b (subst (λ (n : ℕ). Steady l.table (registers_of l) n (min l.book 16384) l.judged) a means.1)
 
     few : length l.judged < 16384
     few = let b = bounded l.table (registers_of l) l.cap (min l.book 16384) l.judged means.1 in omega arith
@@ -94,12 +94,12 @@ module _ {V : Type 0} (class : V → Class) (s : State V) (h : Held) (l : Ledger
     same_breach : (p : ℕ) (x : Entry) (b : Breach) → ◌≡◌ {A = Stage} (Broken (record { position = p; last = x })) (Broken b) → x ≡ b.last
     same_breach p x b e = let same : ◌≡◌ {A = Breach} (record { position = p; last = x }) b = cc in ap (λ (c : Breach). c.last) same
 
-    same_known : (t : State V) (p : ℕ) (x : Entry) (b : Breach) → ◌≡◌ {A = Stage} (Broken (record { position = p; last = x })) (Broken b) → x.parent < t.book.used → b.last.parent < t.book.used
-    same_known t p x b e k = subst (λ (y : Entry). y.parent < t.book.used) (same_breach p x b e) k
+    same_known : (t : State V) (p : ℕ) (x : Entry) (b : Breach) → ◌≡◌ {A = Stage} (Broken (record { position = p; last = x })) (Broken b) → x.parent < t.grid.book.used → b.last.parent < t.grid.book.used
+    same_known t p x b e k = subst (λ (y : Entry). y.parent < t.grid.book.used) (same_breach p x b e) k
 
     same_shown : (t : State V) (p : ℕ) (x : Entry) (b : Breach) → ◌≡◌ {A = Stage} (Broken (record { position = p; last = x })) (Broken b)
-        → steps_by (vec_items t.book.entries) x ≡ steps_by (vec_items t.book.entries) b.last
-    same_shown t p x b e = ap (steps_by (vec_items t.book.entries)) (same_breach p x b e)
+        → steps_by (vec_items t.grid.book.entries) x ≡ steps_by (vec_items t.grid.book.entries) b.last
+    same_shown t p x b e = ap (steps_by (vec_items t.grid.book.entries)) (same_breach p x b e)
 
     told_idle : (asked : Asked) → told (Ok (stands asked)) ≡ says (idle asked) None
     told_idle Event = refl
@@ -131,7 +131,7 @@ module _ {V : Type 0} (class : V → Class) (s : State V) (h : Held) (l : Ledger
       turned_by : (d : Ruling) → Stays s t d → ComesTo s t l.table (registers_of l) l.judged w d → (d ≡ GoesOn → idle asked ≡ phases.Running → Follows class t l.table (registers_of l) w.events) →
           Turned h k d asked r → ((o : Ledger × Answer) → Settles l w (idle asked) (ruled d) o → Sound o.0) → (m : Ledger) × Agrees class t k m × Settles l w (idle asked) (ruled d) (m, told r)
       turned_by (Breaks p x) stays C F u S =
-          let path = steps_by (vec_items t.book.entries) x in
+          let path = steps_by (vec_items t.grid.book.entries) x in
           let m = broken_at l w p path in
           let a : told r ≡ says phases.Broken (Some p) = ap told u.1 in
           let o : Settles l w (idle asked) (D.breaks p) (m, told r) = (path, C.shown, λ j. (m, a j)) in (
@@ -183,7 +183,7 @@ module _ {V : Type 0} (class : V → Class) (s : State V) (h : Held) (l : Ledger
 
   -- what the rows promise of an event or of the end, at the table that was lent
   abbrev pub Promise : T.Table → State V → ℕ → (List T.Event → World) → (State V → T.Table → Registers → List T.Event → Type 0) → Ruling → Type 0
-  Promise P t judged world Then d = (k : Registers) (L : List T.Event) → Steady P k s.cap (room_of (vec_items s.book.entries)) L → judged ≡ length L → Follows class s P k L →
+  Promise P t judged world Then d = (k : Registers) (L : List T.Event) → Steady P k s.grid.cap (room_of (vec_items s.grid.book.entries)) L → judged ≡ length L → Follows class s P k L →
       ComesTo s t P k L (world L) d × Then t P k L
 
   pub feed_ruled : (t : State V) (k : Held) (e : T.Event) (x : Bor Table) (d : Ruling) (r : Result Standing Refusal) → h.stage ≡ Running x → event_reason (meant x.now) e ≡ None →
@@ -205,14 +205,14 @@ module _ {V : Type 0} (class : V → Class) (s : State V) (h : Held) (l : Ledger
       (z.0, z.1, feeds (z.0, told r) z.2)
 
   pub close_ruled : (t : State V) (k : Held) (x : Bor Table) (d : Ruling) (r : Result Standing Refusal) → h.stage ≡ Running x → Stays s t d →
-      ((k : Registers) (L : List T.Event) → Steady (meant x.now) k s.cap (room_of (vec_items s.book.entries)) L → h.judged ≡ length L → Follows class s (meant x.now) k L → ComesTo s t (meant x.now) k L (closing L) d) →
+      ((k : Registers) (L : List T.Event) → Steady (meant x.now) k s.grid.cap (room_of (vec_items s.grid.book.entries)) L → h.judged ≡ length L → Follows class s (meant x.now) k L → ComesTo s t (meant x.now) k L (closing L) d) →
       Turned h k d End r → (m : Ledger) × Agrees class t k m × Closes l (m, told r)
   close_ruled t k x d r p stays rules u =
       let run = running x p in
       let tab : l.table ≡ meant x.now = sh.lent x p in
       let w = closing l.judged in
-      let promise : (k : Registers) (L : List T.Event) → Steady l.table k s.cap (room_of (vec_items s.book.entries)) L → h.judged ≡ length L → Follows class s l.table k L → ComesTo s t l.table k L (closing L) d =
-      subst (λ (P : T.Table). (k : Registers) (L : List T.Event) → Steady P k s.cap (room_of (vec_items s.book.entries)) L → h.judged ≡ length L → Follows class s P k L → ComesTo s t P k L (closing L) d) (sym tab) rules in
+      let promise : (k : Registers) (L : List T.Event) → Steady l.table k s.grid.cap (room_of (vec_items s.grid.book.entries)) L → h.judged ≡ length L → Follows class s l.table k L → ComesTo s t l.table k L (closing L) d =
+      subst (λ (P : T.Table). (k : Registers) (L : List T.Event) → Steady P k s.grid.cap (room_of (vec_items s.grid.book.entries)) L → h.judged ≡ length L → Follows class s P k L → ComesTo s t P k L (closing L) d) (sym tab) rules in
       let came = promise (registers_of l) l.judged (steady run) sh.count (sh.follows run) in
       let is = rule_is run t w d came in
       let closes : (o : Ledger × Answer) → Settles l w phases.Kept (ruled d) o → Closes l o = λ o y. closes_ruled l (ruled d) o run is y in

@@ -27,15 +27,15 @@ pub record Agrees {V : Type 0} (class : V → Class) (s : State V) (h : Held) (l
   pub phase : phase_of h.stage ≡ l.phase
   pub count : h.judged ≡ length l.judged
   pub position : position_of h.stage ≡ l.position
-  pub board : vec_len s.board ≡ l.board
-  pub book : length (vec_items s.book.entries) ≡ l.book
+  pub board : vec_len s.grid.board ≡ l.board
+  pub book : length (vec_items s.grid.book.entries) ≡ l.book
   pub sound : Sound l
   pub lawful : T.Lawful l.table
   pub lent : (x : Bor Table) → h.stage ≡ Running x → l.table ≡ meant x.now
-  pub cap : l.phase ≡ phases.Running → s.cap ≡ l.cap
+  pub cap : l.phase ≡ phases.Running → s.grid.cap ≡ l.cap
   pub follows : l.phase ≡ phases.Running → Follows class s l.table (registers_of l) l.judged
-  pub known : (b : Breach) → h.stage ≡ Broken b → b.last.parent < s.book.used
-  pub shown : (b : Breach) → h.stage ≡ Broken b → l.shown ≡ steps_by (vec_items s.book.entries) b.last
+  pub known : (b : Breach) → h.stage ≡ Broken b → b.last.parent < s.grid.book.used
+  pub shown : (b : Breach) → h.stage ≡ Broken b → l.shown ≡ steps_by (vec_items s.grid.book.entries) b.last
 
 -- The watch shows the ledger.
 abbrev pub Shows : {K V : Type 0} {kind : Ghosts K V} → Watch K V kind → Ledger → Type 0

@@ -67,9 +67,9 @@ impl<'a, K: Kind> Watch<'a, K> {
         ensures { Turns self.old (λ l r. Begins l (meant table.now) (map K.Kind.class constants.now) cap r) (began result) self.new }
     {
         self.may_begin(constants.len(), table.constants().len(), cap)?;
-        if !self.rows.open(table, constants, cap) {
+        let Ok(()) = self.rows.open(table, constants, cap) else {
             return Err(self.refuse(Reason::Watch(WatchReason::SmallBoard)));
-        }
+        };
         self.held.stage = Stage::Running(table);
         Ok(())
     }

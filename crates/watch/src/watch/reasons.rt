@@ -43,7 +43,7 @@ impl<'a, K: Kind> Watch<'a, K> {
 
     // Whether it may begin with so many constants, where so many are wanted, and a cap.
     pub(crate) fn may_begin(&self, given: usize, wanted: usize, cap: usize) -> Result<(), Refusal>
-        ensures { Checks (opening_reason (phase_of self.now.held.stage) (vec_len self.now.rows.state.board) (length self.now.rows.state.book.entries.items) given wanted cap)
+        ensures { Checks (opening_reason (phase_of self.now.held.stage) (vec_len self.now.rows.state.grid.board) (length self.now.rows.state.grid.book.entries.items) given wanted cap)
             self.now.held.judged result }
     {
         let Stage::Blank = self.held.stage else {

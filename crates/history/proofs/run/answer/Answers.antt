@@ -36,7 +36,7 @@ returns-else-k-sources g c l sh =
       d.0,
       d.1,
       draw_at g.K.Kind.class g.S.Source.waiting g.S.Source.ending l d.0 c.args.sources.now c.args.call c.in-Draw.k c.index-sources-k.result c.draw.new.source
-          (drew c.draw.result) c.from-else-k-sources.result c.in-Draw.is c.if-k-sources.false d.2 c.from-else-k-sources.ensures,
+          (drew c.draw.result) c.from-in-Draw.result c.in-Draw.is c.if-k-sources.false d.2 c.from-in-Draw.ensures,
     )
 
 pub returns-in-Close : goal.returns-in-Close
@@ -72,4 +72,3 @@ returns-in-Err g c l sh =
 
 pub returns-in_err-page-in-Path : goal.returns-in_err-page-in-Path
 returns-in_err-page-in-Path g c = MatchResult-from_err c.from_residual.result _ _ c.from_residual.ensures.0 (λ y. refl)
-
