@@ -1,5 +1,6 @@
 // A property as far as its text has been read, and searches in it.
 ghost use Rattle.std.specs.Prelude.{◌≡◌, ◌==◌, length, nat_eq, nat_lt, position, find};
+ghost use Rattle.std.specs.List.{list_any, position_or_len};
 ghost use Rattle.property.specs.Views.{key_of};
 ghost use Rattle.property.specs.States as state;
 ghost use Rattle.property.specs.States.{same_key};
@@ -51,7 +52,7 @@ impl Draft {
 
     // Whether a state is not among those besides `start` and `error`.
     fn lacks(&self, text: &[u8], w: &[u8]) -> bool
-        ensures { let ws = (sofar text.now self.now).others in result ≡ (word.find (word.same w.now) ws == length ws) }
+        ensures { let ws = (sofar text.now self.now).others in result ≡ (position_or_len (word.same w.now) ws == length ws) }
     {
         self.other(text, w).is_none()
     }
@@ -95,7 +96,7 @@ impl Draft {
 
     // Whether a method has the number.
     pub(crate) fn numbered(&self, text: &[u8], number: u32) -> bool
-        ensures { result ≡ word.some (λ m. nat_eq number m.number) (sofar text.now self.now).methods }
+        ensures { result ≡ list_any (λ m. nat_eq number m.number) (sofar text.now self.now).methods }
     {
         self.methods.iter().any(|m| number == m.number)
     }
