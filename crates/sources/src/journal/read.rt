@@ -26,6 +26,7 @@ const MOST_BYTES: usize = 65_536;
 const VERSION: u8 = 1;
 
 // What a reading finds at the place, which then moves past it; a fault is placed there, and nothing moves.
+// Kept bytes and place as two parameters: the guard borrows the place alone, so that it can put it back on every way out.
 fn take<V: Copy, R: Fn(&[u8]) -> Result<(V, usize), Fault>>(
     bytes: &[u8],
     place: &mut Place,
