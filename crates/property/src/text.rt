@@ -76,6 +76,7 @@ fn routed(statements: &[Statement]) -> bool
 }
 
 // Whether some statement leaves `start`.
+// Kept apart from `reaches_error`: with both chains in one function the goals `returns-then-any` and `returns-else-any` stay open.
 fn leaves_start(statements: &[Statement]) -> bool
     ensures { result ≡ list_any (λ s. nat_eq s.source 0) statements.now }
 {
