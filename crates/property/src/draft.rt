@@ -1,5 +1,5 @@
 // A property as far as its text has been read, and searches in it.
-ghost use Rattle.std.specs.Prelude.{◌≡◌, ◌==◌, length, nat_eq, nat_lt, position, find};
+ghost use Rattle.std.specs.Prelude.{◌≡◌, ℕ, List, ◌==◌, length, nat_eq, nat_lt, position, find};
 ghost use Rattle.std.specs.List.{list_any, position_or_len};
 ghost use Rattle.property.specs.Views.{key_of};
 ghost use Rattle.property.specs.States as state;
@@ -65,6 +65,7 @@ impl Draft {
     }
 
     // The number of a state, which is the next one where it was not written yet, and 16 for all past the fifteenth.
+    // Kept a number for those past it: such a state is refused where it stands, so no statement that is read has it.
     pub(crate) fn state_number(&self, text: &[u8], w: &[u8]) -> usize
         ensures { result ≡ state.state_number (sofar text.now self.now).others w.now }
     {
@@ -77,7 +78,8 @@ impl Draft {
         2 + self.other(text, w).unwrap_or(self.others.len()).min(14)
     }
 
-    // The number and the arity of the method of a name, 0 where none is declared: such a piece is refused where it stands.
+    // The number and the arity of the method of a name, 0 where none is declared.
+    // Kept 0 for none: such a name is refused where it stands, so no label that is read has it.
     pub(crate) fn called(&self, text: &[u8], w: &[u8]) -> (u32, usize)
         ensures { let m = state.method_of (sofar text.now self.now) w.now in (result.0 ≡ m.number) × (result.1 ≡ m.arity) }
     {
@@ -95,8 +97,8 @@ impl Draft {
     }
 
     // Whether a method has the number.
-    pub(crate) fn numbered(&self, text: &[u8], number: u32) -> bool
-        ensures { result ≡ list_any (λ m. nat_eq number m.number) (sofar text.now self.now).methods }
+    pub(crate) fn numbered(&self, number: u32) -> bool
+        ensures { (t : List ℕ) → result ≡ list_any (λ m. nat_eq number m.number) (sofar t self.now).methods }
     {
         self.methods.iter().any(|m| number == m.number)
     }

@@ -95,7 +95,7 @@ impl Draft {
         ensures { told result ≡ worst (line_flaws Line.MethodNumber (view text.now self.now) w.now) }
     {
         match decimal(w) {
-            Some(n) => fault(self.numbered(text, n), TextReason::BadMethod),
+            Some(n) => fault(self.numbered(n), TextReason::BadMethod),
             None => Some(TextReason::TooMuch),
         }
     }

@@ -6,7 +6,7 @@ use Rattle.property.proofs.Searching.{any_map}
 use Rattle.property.proofs.draft.Draft.numbered.Goals as goal
 
 pub returns : goal.returns
-returns c =
+returns c = λ t.
     let xs = c.args.self.now.methods.items in
     any_from_yields_List (λ m. eqb c.args.number m.number) _ _ _ c.any.ensures.ran (YieldsList-from_slice xs cc) (λ x b q k. search (rules, tests))
-    ∙ any_map (declared c.args.text.now) (λ m. eqb c.args.number m.number) xs
+    ∙ any_map (declared t) (λ m. eqb c.args.number m.number) xs
