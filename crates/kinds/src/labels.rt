@@ -31,6 +31,7 @@ fn are_label_bytes(text: &[u8]) -> bool
 }
 
 // The label that a short text spells.
+#[tactic(auto, using(crate::specs::Trims::padded_is, crate::specs::Trims::sixteen_from))]
 fn spell(text: &[u8]) -> Label
     requires { length text.now ≤ 16 }
     ensures { result ≡ label_of text.now }
@@ -68,6 +69,7 @@ fn read_text(bytes: &[u8]) -> Result<(Label, usize), Fault>
 }
 
 // Reads the label at the front of some bytes, and tells how many bytes it takes.
+#[tactic(auto, using(crate::specs::Meaning::labelled, crate::specs::Meaning::label_only, crate::specs::Meaning::label_keeps))]
 pub fn read_label(bytes: &[u8]) -> Result<(Label, usize), Fault>
     ensures value { result ≡ label_read bytes.now }
     ensures meaning { Labelled bytes.now result }

@@ -28,6 +28,7 @@ fn joined(first: u8, high: u64) -> u64
 }
 
 // Reads a group and at most `more` after it, and tells how many came.
+#[tactic(auto, using(crate::specs::Groups::read_end, crate::specs::Groups::read_last, crate::specs::Groups::read_most, crate::specs::Groups::read_more, crate::specs::Groups::high_small, crate::specs::Groups::bytes_after))]
 fn read_groups(bytes: &[u8], more: u8) -> Result<(u64, usize), Fault>
     requires { more ≤ 8 }
     ensures { result ≡ groups_read more bytes.now }
@@ -47,6 +48,7 @@ fn read_groups(bytes: &[u8], more: u8) -> Result<(u64, usize), Fault>
 }
 
 // Reads the number at the front of some bytes, and tells how many bytes it takes.
+#[tactic(auto, using(crate::specs::Groups::numbered, crate::specs::Groups::only, crate::specs::Groups::within))]
 pub fn read_number(bytes: &[u8]) -> Result<(u64, usize), Fault>
     ensures value { result ≡ number_read bytes.now }
     ensures meaning { Numbered bytes.now result }

@@ -1,13 +1,9 @@
 -- What was taken of a source, and what waits. Assumes nothing.
-use Rattle.std.proofs.Common.{◌≡◌, suc, List, [], ◌∷◌, ◌++◌, map, length, drop, Err, Result, sym, ap, ◌∙◌, subst, arith, MatchResult}
+use Rattle.std.proofs.Common.{◌≡◌, suc, List, [], ◌∷◌, ◌++◌, map, length, drop, sym, ap, ◌∙◌, arith}
 use Rattle.std.proofs.lemmas.List.{append_assoc, drop_at, length-append, length-map}
 use Rattle.sources.specs.Events.{Happening}
 use Rattle.sources.specs.Sayings.{says}
 use Rattle.sources.specs.declared.event.Event.{Event}
-
--- What holds of a refusal holds of a result that is one.
-pub by_err : {T E : Type 0} (P : T → Type 0) (Q : E → Type 0) (r : Result T E) (d : E) → r ≡ Err d → Q d → MatchResult r P Q
-by_err P Q r d e q = subst (λ x. MatchResult x P Q) (sym e) q
 
 module _ {V : Type 0} (es : List (Event V)) (e : Event V) (ws ws' all : List (Happening V)) (so_far : map says es ++ ws ≡ all) (first : ws ≡ says e ∷ ws') where
   -- one event more was lost
