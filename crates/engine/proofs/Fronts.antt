@@ -73,9 +73,9 @@ module _ {X : Type 0} (xs rs : List X) (at n i k : ℕ) (a : at + n ≤ length x
       simp (append_assoc, x1, x2, take-add, add_assoc)
 
 -- a board that was lent, with eight registers written
-pub board_put : {X Z : Type 0} (v : Vec X Z) (lent back rs : List X) (at : ℕ) → lent ≡ vec_items v → back ≡ paste lent at rs 8 → at + 8 ≤ length (vec_items v) → length rs ≡ 8 → vec_items (with_items v back) ≡ paste (vec_items v) at rs 8
+pub board_put : {X Z : Type 0} (v : Vec X Z) (lent back rs : List X) (at : ℕ) → lent ≡ vec_items v → back ≡ paste lent at rs (length rs) → at + 8 ≤ length (vec_items v) → length rs ≡ 8 → vec_items (with_items v back) ≡ paste (vec_items v) at rs 8
 board_put v lent back rs at e f l n =
-    let g : back ≡ paste (vec_items v) at rs 8 = f ∙ ap (λ z. paste z at rs 8) e in
+    let g : back ≡ paste (vec_items v) at rs 8 = f ∙ (ap (λ (z : ℕ). paste lent at rs z) n ∙ ap (λ z. paste z at rs 8) e) in
     with_items_is v back (ap length g ∙ (length-paste (vec_items v) at rs 8 l (omega arith) ∙ sym v.ok.0)) ∙ g
 
 -- what a write of k values at a place leaves, and where

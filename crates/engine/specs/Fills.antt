@@ -1,6 +1,6 @@
 -- What moves bring to a position, and what the code then holds of it.
-use Rattle.std.specs.Prelude.{◌≡◌, ℕ, ◌+◌, ◌-◌, ◌*◌, ◌%◌, ◌<◌, ◌≤◌, true, false, List, [], ◌++◌, map, length, drop, Ok, Err, Result, vec_items, vec_len, slice_index, slice_index_or}
-use Rattle.topl.specs.Lists.{Class, every, apart}
+use Rattle.std.specs.Prelude.{◌≡◌, ℕ, ◌+◌, ◌-◌, ◌%◌, ◌<◌, ◌≤◌, true, false, List, [], ◌++◌, map, length, drop, Ok, Err, Result, vec_items, vec_len, slice_index, slice_index_or}
+use Rattle.topl.specs.Lists.{Class, apart}
 use Rattle.topl.specs.Table as T
 use Rattle.topl.specs.Runs.{Configuration, World, so_far, Registers, Reach, first_configuration, reached, alikeᶜ}
 use Rattle.topl.specs.Rows.{Stands, Filled}
@@ -12,14 +12,10 @@ use Rattle.engine.specs.declared.grid.Grid as G
 use Rattle.engine.specs.declared.front.Filling.{Filling}
 use Rattle.engine.specs.declared.front.Filling.TheVariants.{Broken, Spilled, Stands as Stands'}
 use Rattle.engine.specs.Modes.{mode_of}
-use Rattle.engine.specs.Views.{statement, sound, Seen}
+use Rattle.engine.specs.Views.{statement, Seen}
 use Rattle.engine.specs.Trails.{steps_to, steps_by, room_of}
 use Rattle.engine.specs.Fronts.{row_at, count_at, entries_at, Grid, Others, Spares}
 use Rattle.engine.specs.Grids.{grid_of}
-
--- a scene with sound statements, not more than 64, and six values for each event
-abbrev pub Staged : {V : Type 0} → Scene V → Type 0
-Staged s = (every sound s.statements.now ≡ true) × (length s.statements.now ≤ 64) × (length s.window.now ≡ 6 * length s.ids.now)
 
 -- the statements of a table, and the events of a world from `base` on, as a scene has them
 pub record Watched {V : Type 0} (class : V → Class) (s : Scene V) (base : ℕ) (P : T.Table) (w : World) : Type 0 where

@@ -42,9 +42,9 @@ pub record Added (F G : Front) (slot state entry : ℕ) : Type 0 where
   pub entries_other : (k : ℕ) → (k ≢ slot) → entries_at G k ≡ entries_at F k
   pub spilled : G.spilled ≡ F.spilled
 
--- a board with eight registers written from a place on
+-- a board with some values written from a place on
 abbrev pub stored : {X : Type 0} → List X → ℕ → List X → List X
-stored board at rs = paste board at rs 8
+stored board at rs = paste board at rs (length rs)
 
 -- The front, the registers on the board, and the entries of the book, of which the first `used` count.
 pub record Grid (V : Type 0) : Type 0 where

@@ -83,7 +83,7 @@ pub(crate) fn attempt_statement<K: Kind>(
     from: usize,
     registers: &mut [K::Value],
 ) -> Outcome
-    requires { (every inside matchers.now ≡ true) × (length scene.now.window.now ≡ 6 * length scene.now.ids.now) × (from ≤ length scene.now.ids.now) × (length registers.old ≡ 8) }
+    requires { (every inside matchers.now ≡ true) × (from ≤ length scene.now.ids.now) × (length registers.old ≡ 8) }
     ensures { (es : List Happening) → Seen K.Kind.class scene.now.ids.now scene.now.window.now es
         → told result (map K.Kind.class registers.new) ≡ fares (map matcher matchers.now) (map K.Kind.class registers.old) (drop from es) }
 {

@@ -59,6 +59,7 @@ impl Book {
         requires { 0 < entry → entry < self.now.used }
         ensures { result ≡ length (steps_to self.now.entries.items entry) }
     {
+        // Kept a counted walk: each entry names its parent, and no iterator goes that way.
         let mut at = entry;
         let mut count = 0;
         while at != 0 {
@@ -73,6 +74,7 @@ impl Book {
         requires { (0 < entry → entry < self.now.used) × (length (steps_to self.now.entries.items entry) ≤ length page.old) }
         ensures { page.new ≡ steps_to self.now.entries.items entry ++ drop (length (steps_to self.now.entries.items entry)) page.old }
     {
+        // Kept a counted walk: the steps come from the last to the first, each named by the entry after it.
         let mut at = entry;
         let mut left = self.depth(entry);
         while at != 0 {

@@ -5,7 +5,7 @@ ghost use Rattle.topl.specs.Runs.{Registers, World};
 ghost use Rattle.engine.specs.declared.entry.Entry as E;
 ghost use Rattle.engine.specs.declared.front.Ruling.TheVariants.{Breaks};
 ghost use Rattle.engine.specs.Grids.{grid_of};
-ghost use Rattle.engine.specs.Fills.{Ready, Safe, Staged, Watched};
+ghost use Rattle.engine.specs.Fills.{Ready, Safe, Watched};
 ghost use Rattle.engine.specs.Judging.{Balance, Judged, Start, Decided, shown_entry};
 
 use crate::fill::fill_position;
@@ -28,7 +28,7 @@ fn judge_position<K: Kind>(
     base: usize,
     p: usize,
 ) -> Ruling
-    requires { Staged scene.now × (p ≤ base + length scene.now.ids.now) × (base ≤ p) × (p ≤ base + 4) }
+    requires { (p ≤ base + length scene.now.ids.now) × (base ≤ p) × (p ≤ base + 4) }
     ensures safe { Safe (p % 5) grid.old grid.new (shown_entry result) }
     ensures rules { (P : TheTable) (k : Registers) (L : List Happening) (w : World) → Watched K.Kind.class scene.now base P w
         → Ready K.Kind.class grid.old.cap (grid_of grid.old) base p P k L w
@@ -58,7 +58,7 @@ pub(crate) fn judge<K: Kind>(
     base: usize,
     last: usize,
 ) -> Ruling
-    requires { Staged scene.now × (last ≡ base + length scene.now.ids.now) × (last < 2 ^ 63) × (last ≤ base + 4) }
+    requires { (last ≡ base + length scene.now.ids.now) × (last < 2 ^ 63) × (last ≤ base + 4) }
     ensures cap { grid.new.cap ≡ grid.old.cap }
     ensures board { vec_len grid.new.board ≡ vec_len grid.old.board }
     ensures long { length grid.new.book.entries.items ≡ length grid.old.book.entries.items }

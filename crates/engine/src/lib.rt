@@ -1,7 +1,6 @@
 // What a watch keeps of the runs: rows of configurations and a book of steps, and how an event or the end of the list changes them.
 #![tactic(auto)]
 
-pub mod advance;
 pub mod attempt;
 pub mod book;
 pub mod entry;
@@ -9,6 +8,7 @@ pub mod fill;
 pub mod front;
 pub mod grid;
 pub mod judge;
+pub mod mode;
 pub mod open;
 pub mod property;
 pub mod remember;

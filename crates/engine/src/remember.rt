@@ -1,11 +1,13 @@
 // What a watch remembers of an event, and forgets.
 ghost use Rattle.std.specs.Prelude.{◌≡◌, ℕ, ◌+◌, ◌-◌, ◌≤◌, List, [], ◌∷◌, ◌++◌, length, drop, if◌then◌else◌, slice_index_or};
 ghost use Rattle.topl.specs.Table.{Event as Happening, calls};
-ghost use Rattle.topl.specs.Theorems.{seen as shown};
+ghost use Rattle.topl.specs.Theorems.{seen as shown, value_places};
 ghost use Rattle.engine.specs.Windows.{Remembers};
 
+use crate::row::write_at;
 use crate::window::Window;
 use kinds::kind::Kind;
+use std::array;
 
 // Value i of those that were given, nothing where there are fewer.
 fn value_of<K: Kind>(values: &[K::Value], i: usize) -> K::Value
@@ -25,6 +27,13 @@ fn place_of<K: Kind>(id: u32, values: &[K::Value], i: usize) -> K::Value
     } else {
         value_of::<K>(values, i - 1)
     }
+}
+
+// The six places of an event.
+fn places_for<K: Kind>(id: u32, values: &[K::Value]) -> [K::Value; 6]
+    ensures { result ≡ value_places K.Kind.nothing id values.now }
+{
+    array::from_fn(|i| place_of::<K>(id, values, i))
 }
 
 // Forgets the first of four events: no statement that starts there can wait any more.
@@ -48,9 +57,8 @@ pub(crate) fn witness<K: Kind>(window: &mut Window<K::Value>, id: u32, values: &
         → Remembers K.Kind.class window.new (es ++ shown K.Kind.class id values.now ∷ []) }
 {
     let at = window.seen;
+    let places = places_for::<K>(id, values);
     window.ids[at] = id;
-    for i in 0..6 {
-        window.places[6 * at + i] = place_of::<K>(id, values, i);
-    }
+    write_at(&mut window.places, 6 * at, &places);
     window.seen = at + 1;
 }

@@ -54,15 +54,14 @@ fn part_of<V: Copy>(rows: &[V], cap: usize, slot: usize) -> &[V]
     &rows[from..to]
 }
 
-// Writes the registers of configuration i of a part.
-fn write_configuration<V: Copy>(part: &mut [V], i: usize, registers: &[V])
-    requires { (8 * i + 8 ≤ length part.old) × (length registers.now ≡ 8) }
-    ensures { part.new ≡ stored part.old (8 * i) registers.now }
+// Writes some values over a part, from a place on.
+pub(crate) fn write_at<V: Copy>(part: &mut [V], from: usize, values: &[V])
+    requires { from + length values.now ≤ length part.old }
+    ensures { part.new ≡ stored part.old from values.now }
 {
-    let from = 8 * i;
-    let to = from + 8;
+    let to = from + values.len();
     let place = &mut part[from..to];
-    place.copy_from_slice(registers);
+    place.copy_from_slice(values);
 }
 
 // Writes the registers of configuration i of a position: the position's part of the board is lent on.
@@ -79,7 +78,7 @@ pub(crate) fn put_configuration<V: Copy>(
     let from = start(cap, slot);
     let to = from + 8 * cap;
     let part = &mut rows[from..to];
-    write_configuration(part, i, registers);
+    write_at(part, 8 * i, registers);
 }
 
 // The registers of configuration i of a position.

@@ -9,13 +9,15 @@ ghost use Rattle.engine.specs.Meant.{meant};
 ghost use Rattle.engine.specs.States.{Follows, ComesTo, Stays};
 ghost use Rattle.engine.specs.Opening.{Opens};
 
-use crate::advance::{end_list, take_event};
 use crate::book::Book;
 use crate::entry::Entry;
 use crate::front::{Front, Ruling};
 use crate::grid::Grid;
+use crate::mode::Mode;
 use crate::open::open_rows;
 use crate::property::Table;
+use crate::remember::{forget, witness};
+use crate::settle::settle;
 use crate::state::State;
 use crate::window::Window;
 use kinds::kind::Kind;
@@ -84,7 +86,7 @@ impl<K: Kind> Rows<K> {
         Ok(())
     }
 
-    // One event more after so many judged ones.
+    // One event more after so many judged ones: the rows of the positions from judged - 2 to judged + 1 are filled in order.
     pub fn take_event(
         &mut self,
         table: &Table,
@@ -100,13 +102,12 @@ impl<K: Kind> Rows<K> {
             → ComesTo self.old.state self.new.state (meant table.now) k L (so_far (L ++ shown K.Kind.class id values.now ∷ [])) result
             × (result ≡ GoesOn → Follows K.Kind.class self.new.state (meant table.now) k (L ++ shown K.Kind.class id values.now ∷ [])) }
     {
-        take_event::<K>(
-            &mut self.state,
-            table.statements(),
-            judged.min(MOST_EVENTS),
-            id,
-            values,
-        )
+        let judged = judged.min(MOST_EVENTS);
+        let state = &mut self.state;
+        forget::<K>(&mut state.window);
+        witness::<K>(&mut state.window, id, values);
+        state.grid.front.clear((judged + 1) % 5);
+        settle::<K>(state, table, Mode::Settled, judged.saturating_sub(3))
     }
 
     // The list has ended after so many judged events.
@@ -118,7 +119,10 @@ impl<K: Kind> Rows<K> {
             → Follows K.Kind.class self.old.state (meant table.now) k L
             → ComesTo self.old.state self.new.state (meant table.now) k L (closing L) result }
     {
-        end_list::<K>(&mut self.state, table.statements(), judged.min(MOST_EVENTS))
+        let judged = judged.min(MOST_EVENTS);
+        let state = &mut self.state;
+        forget::<K>(&mut state.window);
+        settle::<K>(state, table, Mode::Closed, judged.saturating_sub(3))
     }
 
     // Writes the steps of a run into the front of a page and tells their count: those that lead to an entry of the book, and one more.

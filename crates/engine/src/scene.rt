@@ -1,34 +1,19 @@
 // What moves are tried against.
-ghost use Rattle.std.specs.Prelude.{◌≡◌};
-ghost use Rattle.topl.specs.Runs.{calm, hangs};
-ghost use Rattle.engine.specs.Modes.{mode_of};
+ghost use Rattle.std.specs.Prelude.{◌≡◌, ◌*◌, ◌≤◌, true, length};
+ghost use Rattle.topl.specs.Lists.{every};
+ghost use Rattle.engine.specs.Views.{sound};
 
+use crate::mode::Mode;
 use crate::table::Statement;
-
-// Whether the list of events goes on, or has ended.
-#[derive(Clone, Copy)]
-pub enum Mode {
-    Settled,
-    Closed,
-}
-
-impl Mode {
-    // Lets a statement that hangs a skip go on?
-    pub(crate) fn lets_hang(self) -> bool
-        ensures { result ≡ calm (mode_of self) hangs }
-    {
-        match self {
-            Mode::Settled => false,
-            Mode::Closed => true,
-        }
-    }
-}
 
 // The statements, and the last events: the id of each, and its six places; whether the list has ended.
 #[derive(Drop)]
 pub struct Scene<'a, V> {
-    pub statements: &'a [Statement],
-    pub ids: &'a [u32],
-    pub window: &'a [V],
-    pub mode: Mode,
+    pub(crate) statements: &'a [Statement],
+    pub(crate) ids: &'a [u32],
+    pub(crate) window: &'a [V],
+    pub(crate) mode: Mode,
+    ghost sound: { every sound statements.now ≡ true },
+    ghost few: { length statements.now ≤ 64 },
+    ghost six: { length window.now ≡ 6 * length ids.now },
 }

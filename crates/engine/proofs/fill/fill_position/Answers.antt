@@ -44,5 +44,5 @@ returns-else-grid-clause-fills g c P k L w W R =
       kept = h.1.kept;
       long = h.1.long;
       counted = h.1.counted;
-      tracked = λ z. h.1.tracked z (R.tracked p c.requires.2 (omega arith));
+      tracked = λ z. h.1.tracked z (R.tracked p c.requires.1 (omega arith));
     }

@@ -31,7 +31,7 @@ returns-then-not-is_calm g c base P w W =
     let n = length_numbered P ts W.statements in
     let l : i < length (numbered P) = omega (arith, c.loop-t-test.true) in
     let is = written_is P ts W.statements i t c.loop-t-test.true c.t-item.is in
-    let f = fit_in ts i t c.requires.0.0 c.loop-t-test.true c.t-item.is in
+    let f = fit_in ts i t c.args.scene.now.sound c.loop-t-test.true c.t-item.is in
     let ms = ap (map matcher) c.deref.ensures.value ∙ sym (matchers_are t.source t.target (vec_items t.events) f) in
     sym (loud w (base + c.args.from) d (numbered P) i l
     (calms_here w base c.args.from d (get_or (numbered P) i (65, implied)) (statement t) (ap (λ z. z.1) is) c.if-t-state.false false (mode_of c.args.scene.now.mode) W.mode
@@ -46,7 +46,7 @@ loop-t-preserved g c base P w W =
     let n = length_numbered P ts W.statements in
     let l : i < length (numbered P) = omega (arith, c.loop-t-test.true) in
     let is = written_is P ts W.statements i t c.loop-t-test.true c.t-item.is in
-    let f = fit_in ts i t c.requires.0.0 c.loop-t-test.true c.t-item.is in
+    let f = fit_in ts i t c.args.scene.now.sound c.loop-t-test.true c.t-item.is in
     let ms = ap (map matcher) c.deref.ensures.value ∙ sym (matchers_are t.source t.target (vec_items t.events) f) in
     quiet_more w (base + c.args.from) d (numbered P) i l
     ∙ ap₂ ◌&&◌ (c.loop-t.invariant base P w W)

@@ -12,7 +12,7 @@ loop-p-init g c =
       cap = refl;
       board = refl;
       long = refl;
-      along = λ P k L w W S. along_start g.K.Kind.class s.cap c.args.base c.args.last P k L w (grid_of s) S c.requires.3;
+      along = λ P k L w W S. along_start g.K.Kind.class s.cap c.args.base c.args.last P k L w (grid_of s) S c.requires.2;
     }
 
 pub returns-in_default : goal.returns-in_default
@@ -38,11 +38,11 @@ returns-in_default g c =
           let high : p ≤ last = omega (arith, c.loop-p-test.true) in
           let R₂ = room_by s.cap s₂ I.cap in
           let A = I.along P k L w W S in
-          let ready = along_ready class s.cap base last P k L w G₀ S c.requires.3 p G₂ I.long R₂ A low high in
-          let balance = along_balance class s.cap base last P k L w G₀ S c.requires.3 p G₂ I.long R₂ A low high in
+          let ready = along_ready class s.cap base last P k L w G₀ S c.requires.2 p G₂ I.long R₂ A low high in
+          let balance = along_balance class s.cap base last P k L w G₀ S c.requires.2 p G₂ I.long R₂ A low high in
           let J₀ = c.judge_position.ensures.rules P k L w W (subst (λ (z : ℕ). Ready class z G₂ base p P k L w) (sym I.cap) ready) balance in
           let J = subst (λ (z : ℕ). Judged class z G₂ G₃ p P k L w c.judge_position.result) I.cap J₀ in
-          along_decides class s.cap base last P k L w G₀ S c.requires.3 p G₂ I.long R₂ A low high G₃ c.judge_position.result X.spares J c.in_default.not-GoesOn;
+          along_decides class s.cap base last P k L w G₀ S c.requires.2 p G₂ I.long R₂ A low high G₃ c.judge_position.result X.spares J c.in_default.not-GoesOn;
     }
 
 pub loop-p-preserved : goal.loop-p-preserved
@@ -67,11 +67,11 @@ loop-p-preserved g c =
           let high : p ≤ last = omega (arith, c.loop-p-test.true) in
           let R₂ = room_by s.cap s₂ I.cap in
           let A = I.along P k L w W S in
-          let ready = along_ready class s.cap base last P k L w G₀ S c.requires.3 p G₂ I.long R₂ A low high in
-          let balance = along_balance class s.cap base last P k L w G₀ S c.requires.3 p G₂ I.long R₂ A low high in
+          let ready = along_ready class s.cap base last P k L w G₀ S c.requires.2 p G₂ I.long R₂ A low high in
+          let balance = along_balance class s.cap base last P k L w G₀ S c.requires.2 p G₂ I.long R₂ A low high in
           let J₀ = c.judge_position.ensures.rules P k L w W (subst (λ (z : ℕ). Ready class z G₂ base p P k L w) (sym I.cap) ready) balance in
           let J = subst (λ (z : ℕ). Judged class z G₂ G₃ p P k L w c.judge_position.result) I.cap J₀ in
-          along_more class s.cap base last P k L w G₀ S c.requires.3 p G₂ I.long R₂ A low high G₃ c.judge_position.result X.spares J c.in-GoesOn.is;
+          along_more class s.cap base last P k L w G₀ S c.requires.2 p G₂ I.long R₂ A low high G₃ c.judge_position.result X.spares J c.in-GoesOn.is;
     }
 
 pub returns : goal.returns
@@ -84,5 +84,5 @@ returns g c =
       known = λ p x e. absurd (let z : ◌≡◌ {A = ℕ} 0 1 = cc in omega arith);
       decides = λ P k L w W S.
           let e : c.loop-p.p ≡ suc c.args.last = omega arith in
-          along_end g.K.Kind.class s.cap c.args.base c.args.last P k L w (grid_of s) S c.requires.3 c.loop-p.p (grid_of c.loop-p.grid) (I.along P k L w W S) e;
+          along_end g.K.Kind.class s.cap c.args.base c.args.last P k L w (grid_of s) S c.requires.2 c.loop-p.p (grid_of c.loop-p.grid) (I.along P k L w W S) e;
     }

@@ -1,12 +1,7 @@
-use Rattle.std.proofs.Common.{[], ◌∷◌, vec_items, refl, arith, length-append}
+use Rattle.std.proofs.Common.{vec_items}
 use Rattle.engine.specs.Trails.{steps_to}
 use Rattle.engine.proofs.Trails.{page_written}
 use Rattle.engine.proofs.rows.Rows.path.Goals as goal
-
-pub returns-then-before-page : goal.returns-then-before-page
-returns-then-before-page g c =
-    let ss = steps_to (vec_items c.args.self.now.state.grid.book.entries) c.args.from.parent in
-    (refl, λ _. let z = length-append ss (c.args.from.step ∷ []) in omega (arith, c.depth-before.ensures, c.if-before-page.true))
 
 pub returns : goal.returns
 returns g c =
