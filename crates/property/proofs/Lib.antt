@@ -2,7 +2,6 @@ pub mod Exits
 pub mod Leasts
 pub mod Lawfulness
 pub mod Living
-pub mod Pushes
 pub mod Readings
 pub mod Searching
 pub mod Texts

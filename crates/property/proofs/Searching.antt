@@ -1,29 +1,36 @@
 -- Searches in lists.
-use Rattle.std.proofs.Common.{◌≡◌, ℕ, suc, ◌+◌, ◌<◌, ◌≤◌, Bool, true, false, cond, ◌||◌, not, eqb, ltb, List, [], ◌∷◌, map, length, get_or, drop, Some, None, Option, is_some, unwrap_or, sym, refl, ap, ◌∙◌, inl, inr, arith}
-use Rattle.std.specs.List.{position, position_or_len, find as first}
+use Rattle.std.proofs.Common.{◌≡◌, ℕ, suc, ◌+◌, ◌≤◌, Bool, true, false, cond, ◌||◌, not, eqb, ltb, List, [], ◌∷◌, map, length, get_or, Some, None, Option, is_some, unwrap_or, sym, refl, ap, ◌∙◌, inl, inr, arith}
+use Rattle.std.specs.List.{list_any, position, position_or_len, find as first}
 use Rattle.std.specs.Option.{option_map}
-use Rattle.std.proofs.lemmas.List.{drop_more, drop_all, length-map}
+use Rattle.std.proofs.lemmas.List.{length-map}
 use Rattle.std.proofs.lemmas.List.Recursion.{is_position_or_len}
 use Rattle.std.proofs.lemmas.Bool.{cases_Bool}
 use Rattle.std.proofs.lemmas.Bool.Decides.{nat_tests}
-use Rattle.property.specs.Words.{find, some}
 
 module _ {A B : Type 0} (g : A → B) (f : B → Bool) where
   abbrev over : A → Bool
   over x = f (g x)
 
-  -- The place by the library's word.
-  found_at : (xs : List A) → find f (map g xs) ≡ position_or_len over xs
-  found_at xs = is_position_or_len (λ ys. find f (map g ys)) over refl (λ x ys. ap (cond (f (g x)) 0) (omega arith)) xs
+  -- The place in the list of what the elements stand for.
+  abbrev place : List A → ℕ
+  place xs = position_or_len f (map g xs)
 
-  found_least : (xs : List A) → find f (map g xs) ≤ length xs
+  turned : (b : Bool) (n : ℕ) → cond (not b) (1 + n) 0 ≡ cond b 0 (1 + n)
+  turned true n = refl
+  turned false n = refl
+
+  found_at : (xs : List A) → place xs ≡ position_or_len over xs
+  found_at xs = is_position_or_len place over refl (λ x ys. turned (f (g x)) (place ys)) xs
+
+  within : (b : Bool) (n m : ℕ) → n ≤ m → cond (not b) (1 + n) 0 ≤ suc m
+  within true n m h = omega arith
+  within false n m h = omega arith
+
+  found_least : (xs : List A) → place xs ≤ length xs
   found_least [] = omega arith
-  found_least (x ∷ xs) = elim (cases_Bool (f (g x))) [
-    | inl e ↦ (let h : find f (map g (x ∷ xs)) ≡ 0 = ap (λ (b : Bool). cond b 0 (suc (find f (map g xs)))) e in omega arith)
-    | inr e ↦ (let h : find f (map g (x ∷ xs)) ≡ suc (find f (map g xs)) = ap (λ (b : Bool). cond b 0 (suc (find f (map g xs)))) e in let k = found_least xs in omega arith)
-  ]
+  found_least (x ∷ xs) = within (f (g x)) (place xs) (length xs) (found_least xs)
 
-  position_is : (xs : List A) → position over xs ≡ cond (ltb (find f (map g xs)) (length xs)) (Some (find f (map g xs))) None
+  position_is : (xs : List A) → position over xs ≡ cond (ltb (place xs) (length xs)) (Some (place xs)) None
   position_is xs = ap (λ (n : ℕ). cond (ltb n (length xs)) (Some n) None) (sym (found_at xs))
 
   or_length : (n m : ℕ) → n ≤ m → unwrap_or (cond (ltb n m) (Some n) None) m ≡ n
@@ -39,20 +46,14 @@ module _ {A B : Type 0} (g : A → B) (f : B → Bool) where
   ]
 
   -- The place, or the length where there is none.
-  pub place_or : (xs : List A) → unwrap_or (position over xs) (length xs) ≡ find f (map g xs)
-  place_or xs = ap (λ (o : _). unwrap_or o (length xs)) (position_is xs) ∙ or_length (find f (map g xs)) (length xs) (found_least xs)
+  pub next_number : (xs : List A) (r : Option ℕ) (m n : ℕ) → r ≡ position over xs → m ≡ length xs → n ≡ unwrap_or r m → n ≡ place xs
+  next_number xs r m n e h k =
+      k ∙ (ap (λ (o : Option ℕ). unwrap_or o m) (e ∙ position_is xs) ∙ (ap (unwrap_or (cond (ltb (place xs) (length xs)) (Some (place xs)) None)) h ∙ or_length (place xs) (length xs) (found_least xs)))
 
   -- Whether there is none.
-  pub nowhere : (xs : List A) → is_some (position over xs) ≡ not (eqb (find f (map g xs)) (length (map g xs)))
-  nowhere xs =
-      ap is_some (position_is xs) ∙ (some_within (find f (map g xs)) (length xs) (found_least xs)
-      ∙ ap (λ (n : ℕ). not (eqb (find f (map g xs)) n)) (sym (length-map xs g)))
-
-  pub next_number : (xs : List A) (r : Option ℕ) (m n : ℕ) → r ≡ position over xs → m ≡ length xs → n ≡ unwrap_or r m → n ≡ find f (map g xs)
-  next_number xs r m n e h k = k ∙ (ap (λ (o : Option ℕ). unwrap_or o m) e ∙ (ap (unwrap_or (position over xs)) h ∙ place_or xs))
-
-  pub not_held : (xs : List A) (r : Option ℕ) (b : Bool) → r ≡ position over xs → is_some r ≡ not b → b ≡ eqb (find f (map g xs)) (length (map g xs))
-  not_held xs r b e h = same_not b _ (sym h ∙ (ap is_some e ∙ nowhere xs))
+  pub not_held : (xs : List A) (r : Option ℕ) (b : Bool) → r ≡ position over xs → is_some r ≡ not b → b ≡ eqb (place xs) (length (map g xs))
+  not_held xs r b e h =
+      same_not b _ (sym h ∙ (ap is_some (e ∙ position_is xs) ∙ (some_within (place xs) (length xs) (found_least xs) ∙ ap (λ (n : ℕ). not (eqb (place xs) n)) (sym (length-map xs g)))))
     where
       same_not : (x y : Bool) → not x ≡ not y → x ≡ y
       same_not true true h = refl
@@ -60,56 +61,32 @@ module _ {A B : Type 0} (g : A → B) (f : B → Bool) where
       same_not true false h = sym h
       same_not false true h = sym h
 
-  -- The first element, by its place.
-  pub known_by : (xs : List A) → is_some (first over xs) ≡ ltb (find f (map g xs)) (length (map g xs))
+  -- The first element that passes, by its place.
+  pub known_by : (xs : List A) → is_some (first over xs) ≡ ltb (place xs) (length (map g xs))
   known_by [] = refl
-  known_by (x ∷ xs) = elim (cases_Bool (f (g x))) [
-    | inl e ↦ known (f (g x)) e
-    | inr e ↦ unknown (f (g x)) e (known_by xs)
-  ]
+  known_by (x ∷ xs) = step (f (g x)) (known_by xs)
     where
-      known : (b : Bool) → b ≡ true → is_some (cond b (Some x) (first over xs)) ≡ ltb (cond b 0 (suc (find f (map g xs)))) (suc (length (map g xs)))
-      known b e = grind (arith, nat_tests)
+      step : (b : Bool) → is_some (first over xs) ≡ ltb (place xs) (length (map g xs))
+          → is_some (cond b (Some x) (first over xs)) ≡ ltb (cond (not b) (1 + place xs) 0) (suc (length (map g xs)))
+      step true h = grind (arith, nat_tests)
+      step false h = h ∙ grind (arith, nat_tests)
 
-      unknown : (b : Bool) → b ≡ false → is_some (first over xs) ≡ ltb (find f (map g xs)) (length (map g xs)) → is_some (cond b (Some x) (first over xs)) ≡ ltb (cond b 0 (suc (find f (map g xs)))) (suc (length (map g xs)))
-      unknown b e h = grind (arith, nat_tests)
-
-  pub named_by : (xs : List A) (d : B) → unwrap_or (option_map g (first over xs)) d ≡ get_or (map g xs) (find f (map g xs)) d
+  named_by : (xs : List A) (d : B) → unwrap_or (option_map g (first over xs)) d ≡ get_or (map g xs) (place xs) d
   named_by [] d = refl
   named_by (x ∷ xs) d = step (f (g x)) (named_by xs d)
     where
-      step : (b : Bool) → unwrap_or (option_map g (first over xs)) d ≡ get_or (map g xs) (find f (map g xs)) d
-          → unwrap_or (option_map g (cond b (Some x) (first over xs))) d ≡ get_or (g x ∷ map g xs) (cond b 0 (suc (find f (map g xs)))) d
+      step : (b : Bool) → unwrap_or (option_map g (first over xs)) d ≡ get_or (map g xs) (place xs) d
+          → unwrap_or (option_map g (cond b (Some x) (first over xs))) d ≡ get_or (g x ∷ map g xs) (cond (not b) (1 + place xs) 0) d
       step true h = refl
-      step false h = h
+      step false h = let e : suc (place xs) ≡ 1 + place xs = omega arith in h ∙ ap (λ (k : ℕ). get_or (g x ∷ map g xs) k d) e
 
-  pub named_some : (xs : List A) (x : A) (d : B) → first over xs ≡ Some x → get_or (map g xs) (find f (map g xs)) d ≡ g x
+  pub named_some : (xs : List A) (x : A) (d : B) → first over xs ≡ Some x → get_or (map g xs) (place xs) d ≡ g x
   named_some xs x d e = sym (named_by xs d) ∙ ap (λ (o : Option A). unwrap_or (option_map g o) d) e
 
-  pub named_none : (xs : List A) (d : B) → first over xs ≡ None → get_or (map g xs) (find f (map g xs)) d ≡ d
+  pub named_none : (xs : List A) (d : B) → first over xs ≡ None → get_or (map g xs) (place xs) d ≡ d
   named_none xs d e = sym (named_by xs d) ∙ ap (λ (o : Option A). unwrap_or (option_map g o) d) e
 
-  pub some_map : (xs : List A) → some over xs ≡ some f (map g xs)
-  some_map [] = refl
-  some_map (x ∷ xs) = ap (λ (b : Bool). f (g x) || b) (some_map xs)
-
-  -- Whether some element passes is whether one of those from i on does.
-  abbrev pub SomeLeft : List A → ℕ → Type 0
-  SomeLeft xs i = some f (map g xs) ≡ some f (map g (drop i xs))
-
-  module _ (xs : List A) (i : ℕ) (d : A) (h : i < length xs) (left : SomeLeft xs i) where
-    there : some f (map g (drop i xs)) ≡ f (g (get_or xs i d)) || some f (map g (drop (i + 1) xs))
-    there = ap (λ (y : List A). some f (map g y)) (drop_more xs i d h)
-
-    pub some_more : f (g (get_or xs i d)) ≡ false → SomeLeft xs (i + 1)
-    some_more e = left ∙ (there ∙ ap (λ (b : Bool). b || some f (map g (drop (i + 1) xs))) e)
-
-    pub some_here : f (g (get_or xs i d)) ≡ true → true ≡ some f (map g xs)
-    some_here e = sym (left ∙ (there ∙ ap (λ (b : Bool). b || some f (map g (drop (i + 1) xs))) e))
-
-  pub some_all : (xs : List A) (i : ℕ) → length xs ≤ i → SomeLeft xs i → false ≡ some f (map g xs)
-  some_all xs i h left = sym (left ∙ ap (λ (y : List A). some f (map g y)) (drop_all i xs h))
-
-pub map_same : {A : Type 0} (xs : List A) → map (λ (x : A). x) xs ≡ xs
-map_same [] = refl
-map_same (x ∷ xs) = ap (λ (ys : List _). x ∷ ys) (map_same xs)
+  -- Whether one passes.
+  pub any_map : (xs : List A) → list_any over xs ≡ list_any f (map g xs)
+  any_map [] = refl
+  any_map (x ∷ xs) = ap (λ (b : Bool). f (g x) || b) (any_map xs)

@@ -1,5 +1,5 @@
 -- Parts of a text, by place.
-use Rattle.std.proofs.Common.{◌≡◌, ℕ, zero, suc, ◌+◌, ◌-◌, ◌<◌, ◌≤◌, Bool, true, false, cond, not, ◌&&◌, ltb, leb, Some, None, Option, List, [], ◌∷◌, ◌++◌, length, get_or, take, drop, sym, refl, ap, ◌∙◌, inl, inr, append_assoc, arith}
+use Rattle.std.proofs.Common.{◌≡◌, ℕ, zero, suc, ◌+◌, ◌-◌, ◌<◌, ◌≤◌, min, Bool, true, false, cond, not, ◌&&◌, ltb, leb, Some, None, Option, List, [], ◌∷◌, ◌++◌, length, get_or, take, drop, sym, refl, ap, ◌∙◌, subst, inl, inr, append_assoc, arith}
 use Rattle.std.proofs.lemmas.List.{append_cancel_right, take-append-drop, drop-drop, length-take-le, length-drop, get_or-drop, drop_more, drop_all, get_or_past, take_all}
 use Rattle.std.specs.List.{position}
 use Rattle.std.proofs.lemmas.List.Quantifiers.{position-Some}
@@ -65,9 +65,20 @@ pub front_passed : (c : ℕ → Bool) (t : List ℕ) (p q : ℕ) → Passed c t 
 front_passed c t p q x =
     ap (front c) (split t p q x.low) ∙ (front_run c (slice t p q) (drop q t) (every_slice c t p q x) (stops_drop c t q x.stops)).0
 
-pub past_passed : (c : ℕ → Bool) (t : List ℕ) (p q : ℕ) → Passed c t p q → past c (drop p t) ≡ drop q t
+drop_min : (t : List ℕ) (a : ℕ) → drop a t ≡ drop (min a (length t)) t
+drop_min t a = elim (cases_lt a (length t)) [
+  | inl l ↦ (let e : a ≡ min a (length t) = omega arith in ap (λ (k : ℕ). drop k t) e)
+  | inr l ↦ (let e : length t ≡ min a (length t) = omega arith in drop_all a t l ∙ (sym (drop_all (length t) t (omega arith)) ∙ ap (λ (k : ℕ). drop k t) e))
+]
+
+pub past_passed : (c : ℕ → Bool) (t : List ℕ) (p q : ℕ) → Passed c t (min p (length t)) q → past c (drop p t) ≡ drop q t
 past_passed c t p q x =
-    ap (past c) (split t p q x.low) ∙ (front_run c (slice t p q) (drop q t) (every_slice c t p q x) (stops_drop c t q x.stops)).1
+    let m = min p (length t) in
+    ap (past c) (drop_min t p ∙ split t m q x.low) ∙ (front_run c (slice t m q) (drop q t) (every_slice c t m q x) (stops_drop c t q x.stops)).1
+
+-- A place within the text.
+pub passed_in : (c : ℕ → Bool) (t : List ℕ) (p q : ℕ) → p ≤ length t → Passed c t (min p (length t)) q → Passed c t p q
+passed_in c t p q h x = let e : min p (length t) ≡ p = omega arith in subst (λ (k : ℕ). Passed c t k q) e x
 
 pub first_drop : (t : List ℕ) (q : ℕ) → first_byte (drop q t) ≡ get_or t q 0
 first_drop t q = elim (cases_lt q (length t)) [

@@ -1,12 +1,13 @@
 -- The grammar of a property text: what may come at each spot, and the faults of what stands there.
 use Rattle.std.specs.Prelude.{◌≡◌, ℕ, ◌+◌, Bool, true, false, cond, not, ◌&&◌, ◌||◌, ◌⊎◌, List, [], ◌∷◌, length, Some, None, codes, Option, ◌==◌, nat_eq, nat_le, nat_lt, slice_index_or}
+use Rattle.std.specs.List.{list_any}
 use Rattle.forms.specs.Bytes.{space, digit, capital, small, letter, wordy, value}
 use Rattle.forms.specs.Forms.{Form, bounded}
 use Rattle.forms.specs.Grammars.{Grammar, form}
 use Rattle.forms.specs.Pieces.{Piece, word, number, mark, head_of}
 use Rattle.property.specs.Cursors.{wrote}
 use Rattle.property.specs.States.{Property, State, nothing_read, moved, closing, routed, declares, crowded, ninth, key, variable_key, register_of, method_place}
-use Rattle.property.specs.Words.{same, some, front, past, reserved, long, first_byte}
+use Rattle.property.specs.Words.{same, front, past, reserved, long, first_byte}
 use Rattle.property.specs.declared.cursor.Cursor.{Cursor}
 use Rattle.property.specs.declared.spot.Head.{Head}
 use Rattle.property.specs.declared.spot.Head.TheVariants as heads
@@ -116,7 +117,7 @@ line_flaws lines.Fresh p w =
     cond (declares p w) ((nat_le 32 (length p.sofar.methods), 11) ∷ [])
     ((reserved w, 10) ∷ (long w || (nat_le 64 (length p.sofar.statements) || crowded p w), 11) ∷ (same w (codes "error"), 16) ∷ [])
 line_flaws lines.MethodName p w = (reserved w, 10) ∷ (long w, 11) ∷ (nat_lt (method_place p.sofar w) (length p.sofar.methods), 12) ∷ []
-line_flaws lines.MethodNumber p w = (nat_lt 65535 (value w), 11) ∷ (some (λ m. nat_eq (value w) m.number) p.sofar.methods, 12) ∷ []
+line_flaws lines.MethodNumber p w = (nat_lt 65535 (value w), 11) ∷ (list_any (λ m. nat_eq (value w) m.number) p.sofar.methods, 12) ∷ []
 line_flaws lines.MethodArity p w = arity_flaws w
 
 abbrev pub route_flaws : Route → State → List ℕ → List (Bool × ℕ)

@@ -1,8 +1,9 @@
 -- What a property text has written as far as it was read, and what each piece adds.
 use Rattle.std.specs.Prelude.{ℕ, ◌+◌, Bool, true, false, cond, not, ◌&&◌, ◌||◌, List, [], ◌∷◌, ◌++◌, length, codes, ◌==◌, nat_eq, nat_le, nat_lt, slice_index_or}
+use Rattle.std.specs.List.{list_any, position_or_len}
 use Rattle.forms.specs.Bytes.{capital, value}
 use Rattle.property.specs.Cursors.{opened, sourced, targeted, one_if, origin, to, counted, numbered, labelled, stated, seen, placed, naming, writing, filled, met, finished}
-use Rattle.property.specs.Words.{same, find, some, lowered, first_byte}
+use Rattle.property.specs.Words.{same, lowered, first_byte}
 use Rattle.property.specs.declared.cursor.Cursor.{Cursor}
 use Rattle.property.specs.declared.spot.Head.{Head}
 use Rattle.property.specs.declared.spot.Head.TheVariants as heads
@@ -83,11 +84,11 @@ abbrev pub is_error : List ℕ → Bool
 is_error w = same w (codes "error")
 
 abbrev pub state_number : List (List ℕ) → List ℕ → ℕ
-state_number ws w = cond (is_start w) 0 (cond (is_error w) 1 (cond (nat_lt (find (same w) ws) 14) (2 + find (same w) ws) 16))
+state_number ws w = cond (is_start w) 0 (cond (is_error w) 1 (cond (nat_lt (position_or_len (same w) ws) 14) (2 + position_or_len (same w) ws) 16))
 
 -- A state that is neither `start` nor `error` and was not written yet.
 abbrev pub fresh_other : List (List ℕ) → List ℕ → Bool
-fresh_other ws w = not (is_start w) && (not (is_error w) && find (same w) ws == length ws)
+fresh_other ws w = not (is_start w) && (not (is_error w) && position_or_len (same w) ws == length ws)
 
 -- The property with the state w written in it.
 abbrev pub visited : List ℕ → Property → Property
@@ -122,7 +123,7 @@ key false w = variable_key w
 
 -- The register of a key, and whether it has none yet.
 abbrev pub register_of : Property → Key → ℕ
-register_of P k = find (same_key k) P.registers
+register_of P k = position_or_len (same_key k) P.registers
 
 abbrev pub new_key : Property → Key → Bool
 new_key P k = register_of P k == length P.registers
@@ -133,7 +134,7 @@ holding k P = cond (new_key P k) (with_register k P) P
 
 -- The key needs a ninth register.
 abbrev pub ninth_in : List Key → Key → Bool
-ninth_in ks k = find (same_key k) ks == length ks && nat_le 8 (length ks)
+ninth_in ks k = position_or_len (same_key k) ks == length ks && nat_le 8 (length ks)
 
 abbrev pub ninth : Property → Key → Bool
 ninth P k = ninth_in P.registers k
@@ -141,10 +142,10 @@ ninth P k = ninth_in P.registers k
 -- METHODS
 -- The place of the method of a name, or how many there are.
 abbrev pub method_place : Property → List ℕ → ℕ
-method_place P w = find (λ m. same w m.name) P.methods
+method_place P w = position_or_len (λ m. same w m.name) P.methods
 
 abbrev pub method_in : List Declared → List ℕ → Declared
-method_in ms w = slice_index_or ms (find (λ m. same w m.name) ms) (record { name = []; number = 0; arity = 0 })
+method_in ms w = slice_index_or ms (position_or_len (λ m. same w m.name) ms) (record { name = []; number = 0; arity = 0 })
 
 abbrev pub method_of : Property → List ℕ → Declared
 method_of P w = method_in P.methods w
@@ -296,4 +297,4 @@ closing p = (closing_at p.cursor.spot p).sofar
 
 -- Some statement leaves `start`, and some leads to `error`.
 abbrev pub routed : List Statement → Bool
-routed ss = some (λ s. nat_eq s.source 0) ss && some (λ s. nat_eq s.target 1) ss
+routed ss = list_any (λ s. nat_eq s.source 0) ss && list_any (λ s. nat_eq s.target 1) ss

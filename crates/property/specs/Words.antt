@@ -1,20 +1,10 @@
 -- Words of a text, and searches in lists.
-use Rattle.std.specs.Prelude.{ℕ, suc, ◌+◌, Bool, cond, ◌||◌, List, [], ◌∷◌, length, codes, nat_lt, bytes_eq}
-use Rattle.std.specs.List.{list_any}
+use Rattle.std.specs.Prelude.{ℕ, ◌+◌, Bool, cond, ◌||◌, List, [], ◌∷◌, length, codes, nat_lt, bytes_eq}
 use Rattle.forms.specs.Bytes.{capital}
 
 -- Whether two words are spelled alike.
 abbrev pub same : List ℕ → List ℕ → Bool
 same = bytes_eq
-
--- The place of the first element that passes a test, or the length where none does.
-abbrev pub find : {A : Type 0} → (A → Bool) → List A → ℕ
-find f [] = 0
-find f (x ∷ xs) = cond (f x) 0 (suc (find f xs))
-
--- Whether some element passes a test.
-abbrev pub some : {A : Type 0} → (A → Bool) → List A → Bool
-some f xs = list_any f xs
 
 -- The bytes of a class that come first, and those after them.
 abbrev pub front : (ℕ → Bool) → List ℕ → List ℕ

@@ -19,6 +19,7 @@ pub struct Partial {
 
 // A place in the grammar: the spot, how many letters or patterns were counted there, the number of a method line, the label and the statement that are
 // being read, and whether `start` and `error` have been written.
+// Kept two tests for the last: each holds or not by itself and has no value beside it, so an enum would have a variant for each of the four cases.
 #[derive(Clone, Copy)]
 pub struct Cursor {
     pub spot: Spot,

@@ -1,5 +1,6 @@
 // A property as far as its text has been read, and searches in it.
 ghost use Rattle.std.specs.Prelude.{◌≡◌, ◌==◌, length, nat_eq, nat_lt, position, find};
+ghost use Rattle.std.specs.List.{list_any, position_or_len};
 ghost use Rattle.property.specs.Views.{key_of};
 ghost use Rattle.property.specs.States as state;
 ghost use Rattle.property.specs.States.{same_key};
@@ -12,6 +13,7 @@ use crate::table::*;
 use crate::words::*;
 
 // The cursor, a name that waits for its use, and the property so far.
+// Kept apart from the text, which each search is passed: the draft is handed on when the text's borrow is over.
 #[derive(Drop)]
 pub struct Draft {
     pub cursor: Cursor,
@@ -50,7 +52,7 @@ impl Draft {
 
     // Whether a state is not among those besides `start` and `error`.
     fn lacks(&self, text: &[u8], w: &[u8]) -> bool
-        ensures { let ws = (sofar text.now self.now).others in result ≡ (word.find (word.same w.now) ws == length ws) }
+        ensures { let ws = (sofar text.now self.now).others in result ≡ (position_or_len (word.same w.now) ws == length ws) }
     {
         self.other(text, w).is_none()
     }
@@ -62,7 +64,7 @@ impl Draft {
         !is_start(w) && !is_error(w) && self.lacks(text, w)
     }
 
-    // The number of a state, which is the next one where it was not written yet.
+    // The number of a state, which is the next one where it was not written yet, and 16 for all past the fifteenth.
     pub(crate) fn state_number(&self, text: &[u8], w: &[u8]) -> usize
         ensures { result ≡ state.state_number (sofar text.now self.now).others w.now }
     {
@@ -75,7 +77,7 @@ impl Draft {
         2 + self.other(text, w).unwrap_or(self.others.len()).min(14)
     }
 
-    // The number and the arity of the method of a name, 0 where none is declared.
+    // The number and the arity of the method of a name, 0 where none is declared: such a piece is refused where it stands.
     pub(crate) fn called(&self, text: &[u8], w: &[u8]) -> (u32, usize)
         ensures { let m = state.method_of (sofar text.now self.now) w.now in (result.0 ≡ m.number) × (result.1 ≡ m.arity) }
     {
@@ -94,7 +96,7 @@ impl Draft {
 
     // Whether a method has the number.
     pub(crate) fn numbered(&self, text: &[u8], number: u32) -> bool
-        ensures { result ≡ word.some (λ m. nat_eq number m.number) (sofar text.now self.now).methods }
+        ensures { result ≡ list_any (λ m. nat_eq number m.number) (sofar text.now self.now).methods }
     {
         self.methods.iter().any(|m| number == m.number)
     }

@@ -130,7 +130,6 @@ impl Draft {
 
     // The fault of a pattern.
     fn pattern_flaw(&self, text: &[u8], found: Found) -> Option<TextReason>
-        requires { found.name.to ≤ length text.now }
         ensures { told result ≡ worst (pattern_flaws false (view text.now self.now) (spelling text.now found.name) found.byte (drop found.name.to text.now)) }
     {
         match found.byte {
@@ -171,7 +170,6 @@ impl Draft {
 
     // The fault of what begins a label.
     fn begin_flaw(&self, text: &[u8], found: Found) -> Option<TextReason>
-        requires { found.name.to ≤ length text.now }
         ensures { told result ≡ worst (label_flaws Label.Begin (view text.now self.now) (spelling text.now found.name) found.byte (drop found.name.to text.now)) }
     {
         let span = self.cursor.statement.span;
@@ -187,7 +185,6 @@ impl Draft {
 
     // The fault of a pattern that begins a label.
     fn begun_flaw(&self, text: &[u8], found: Found) -> Option<TextReason>
-        requires { found.name.to ≤ length text.now }
         ensures { told result ≡ worst (begun_flaws (nat_le 3 self.now.cursor.statement.span) (view text.now self.now) (spelling text.now found.name) found.byte (drop found.name.to text.now)) }
     {
         if self.cursor.statement.span >= 3 {
@@ -214,7 +211,6 @@ impl Draft {
 
     // The fault of a piece of a label.
     fn label_flaw(&self, label: Label, text: &[u8], found: Found) -> Option<TextReason>
-        requires { found.name.to ≤ length text.now }
         ensures { told result ≡ worst (label_flaws label (view text.now self.now) (spelling text.now found.name) found.byte (drop found.name.to text.now)) }
     {
         match label {
@@ -227,7 +223,6 @@ impl Draft {
 
     // The fault of a piece of a pattern.
     fn inner_flaw(&self, inner: Inner, text: &[u8], found: Found) -> Option<TextReason>
-        requires { found.name.to ≤ length text.now }
         ensures { told result ≡ worst (inner_flaws inner (view text.now self.now) (spelling text.now found.name) found.byte (drop found.name.to text.now)) }
     {
         match inner {
@@ -240,7 +235,6 @@ impl Draft {
 
     // The fault of a piece; the first by number.
     pub(crate) fn flaw(&self, text: &[u8], found: Found) -> Option<TextReason>
-        requires { found.name.to ≤ length text.now }
         ensures { told result ≡ worst (flaws (view text.now self.now) (spelling text.now found.name) found.byte (drop found.name.to text.now)) }
     {
         let w = spelled(text, found.name);

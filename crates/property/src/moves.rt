@@ -53,8 +53,8 @@ impl Draft {
     }
 
     // The method of a line is declared.
-    fn add_method(&mut self, text: &[u8], arity: usize) -> Result<(), AllocError>
-        ensures { OnOk result (view text.now self.new ≡ declare arity (view text.now self.old)) }
+    fn add_method(&mut self, arity: usize) -> Result<(), AllocError>
+        ensures { OnOk result ((t : List ℕ) → view t self.new ≡ declare arity (view t self.old)) }
     {
         let method = Method {
             name: self.word,
@@ -66,8 +66,8 @@ impl Draft {
     }
 
     // The statement that was being read ends.
-    fn add_statement(&mut self, text: &[u8]) -> Result<(), AllocError>
-        ensures { OnOk result (view text.now self.new ≡ state.ends_statement (view text.now self.old)) }
+    fn add_statement(&mut self) -> Result<(), AllocError>
+        ensures { OnOk result ((t : List ℕ) → view t self.new ≡ state.ends_statement (view t self.old)) }
     {
         let statement = self.cursor.statement;
         self.statements.push(statement)?;
@@ -163,7 +163,7 @@ impl Draft {
                 Spot::Line(Line::MethodArity)
             }
             Line::MethodArity => {
-                self.add_method(text, capped(spelled(text, name)) as usize)?;
+                self.add_method(capped(spelled(text, name)) as usize)?;
                 Spot::Line(Line::Ending)
             }
         };
@@ -338,8 +338,8 @@ impl Draft {
     }
 
     // A mark after a label `*`.
-    fn star(&mut self, text: &[u8], found: Found) -> Result<(), AllocError>
-        ensures { OnOk result (view text.now self.new ≡ state.label_moved Label.Star (view text.now self.old) (spelling text.now found.name) found.byte found.name.from) }
+    fn star(&mut self, found: Found) -> Result<(), AllocError>
+        ensures { OnOk result ((t : List ℕ) → view t self.new ≡ state.label_moved Label.Star (view t self.old) (spelling t found.name) found.byte found.name.from) }
     {
         if found.byte == b':' {
             let spot = Spot::Label(Label::Equals);
@@ -347,7 +347,7 @@ impl Draft {
             return Ok(());
         }
         self.cursor = self.cursor.met(Event::Any);
-        self.end(text, found.byte)
+        self.end(found.byte)
     }
 
     // The method of a label is read.
@@ -359,14 +359,14 @@ impl Draft {
     }
 
     // A mark after a label.
-    fn end(&mut self, text: &[u8], byte: u8) -> Result<(), AllocError>
-        ensures { OnOk result (view text.now self.new ≡ state.label_moved Label.End (view text.now self.old) [] byte 0) }
+    fn end(&mut self, byte: u8) -> Result<(), AllocError>
+        ensures { OnOk result ((t : List ℕ) → view t self.new ≡ state.label_moved Label.End (view t self.old) [] byte 0) }
     {
         if byte == b';' {
             self.cursor.spot = Spot::Label(Label::Begin);
             return Ok(());
         }
-        self.add_statement(text)
+        self.add_statement()
     }
 
     // A piece of a label is read.
@@ -375,13 +375,13 @@ impl Draft {
     {
         match label {
             Label::Begin => return self.begin(text, found),
-            Label::Star => return self.star(text, found),
+            Label::Star => return self.star(found),
             Label::Becomes => self.cursor.spot = Spot::Label(Label::Equals),
             Label::Equals => self.cursor.spot = Spot::Label(Label::Callee),
             Label::Callee => self.callee(text, found.name),
             Label::Open => self.cursor.spot = Spot::Inner(Inner::First),
             Label::Comma => self.cursor = self.cursor.closing(found.byte),
-            Label::End => return self.end(text, found.byte),
+            Label::End => return self.end(found.byte),
         }
         Ok(())
     }
@@ -417,15 +417,15 @@ impl Draft {
     }
 
     // The text ends: so does a statement that was being read.
-    pub(crate) fn close(&mut self, text: &[u8]) -> Result<(), AllocError>
-        ensures { OnOk result (sofar text.now self.new ≡ state.closing (view text.now self.old)) }
+    pub(crate) fn close(&mut self) -> Result<(), AllocError>
+        ensures { OnOk result ((t : List ℕ) → sofar t self.new ≡ state.closing (view t self.old)) }
     {
         match self.cursor.spot {
             Spot::Label(Label::Star) => {
                 self.cursor = self.cursor.met(Event::Any);
-                self.add_statement(text)
+                self.add_statement()
             }
-            Spot::Label(Label::End) => self.add_statement(text),
+            Spot::Label(Label::End) => self.add_statement(),
             _ => Ok(()),
         }
     }

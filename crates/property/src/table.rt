@@ -3,6 +3,7 @@ ghost use Rattle.std.specs.Prelude.{◌≡◌};
 ghost use Rattle.property.specs.Views.{name_of};
 
 // A name, by the bytes of the text from one place up to another.
+// Kept as places: a slice of the text would tie the draft to the text's borrow, and a String would take memory for each name.
 #[derive(Clone, Copy)]
 pub struct Name {
     pub from: usize,
@@ -52,6 +53,7 @@ pub struct Slot {
 }
 
 // A call of a method: of its slots as many count as the method has parameters.
+// Kept an array: an ArrayVec is not Copy, and cursors, statements and events are copied whole from step to step.
 #[derive(Clone, Copy)]
 pub struct Call {
     pub number: u32,
@@ -75,6 +77,7 @@ pub enum Event {
 }
 
 // A statement: of its events as many count as it spans.
+// Kept an array, as in a call.
 #[derive(Clone, Copy)]
 pub struct Statement {
     pub source: usize,

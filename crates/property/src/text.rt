@@ -7,7 +7,7 @@ ghost use Rattle.property.specs.States.{nothing_read, routed as routes};
 ghost use Rattle.property.specs.Outcomes.{Explains, ExplainsBounded};
 ghost use Rattle.property.specs.Views.{view, sofar};
 ghost use Rattle.property.specs.declared.text.Failure.TheVariants.{At, Memory};
-ghost use Rattle.property.specs.Words.{some};
+ghost use Rattle.std.specs.List.{list_any};
 
 use crate::cursor::*;
 use crate::draft::*;
@@ -76,15 +76,16 @@ fn routed(statements: &[Statement]) -> bool
 }
 
 // Whether some statement leaves `start`.
+// Kept apart from `reaches_error`: with both chains in one function the goals `returns-then-any` and `returns-else-any` stay open.
 fn leaves_start(statements: &[Statement]) -> bool
-    ensures { result ≡ some (λ s. nat_eq s.source 0) statements.now }
+    ensures { result ≡ list_any (λ s. nat_eq s.source 0) statements.now }
 {
     statements.iter().any(|s| s.source == 0)
 }
 
 // Whether some statement leads to `error`.
 fn reaches_error(statements: &[Statement]) -> bool
-    ensures { result ≡ some (λ s. nat_eq s.target 1) statements.now }
+    ensures { result ≡ list_any (λ s. nat_eq s.target 1) statements.now }
 {
     statements.iter().any(|s| s.target == 1)
 }
@@ -99,7 +100,7 @@ fn read_any(heap: Global, text: &[u8]) -> Result<Draft, Failure>
         draft.advance(text, found)?;
         reader.place = found.name.to;
     }
-    draft.close(text)?;
+    draft.close()?;
     if !routed(draft.statements.as_slice()) {
         let place = text.len();
         return Err(Failure::At(Flaw {

@@ -1,5 +1,5 @@
 // Words of a text, and numbers.
-ghost use Rattle.std.specs.Prelude.{◌≡◌, ◌<◌, ◌≤◌, length, drop, if◌then◌else◌, ◌==◌, not, nat_le, position, Some, None};
+ghost use Rattle.std.specs.Prelude.{◌≡◌, ◌<◌, ◌≤◌, min, length, drop, if◌then◌else◌, ◌==◌, not, nat_le, position, Some, None};
 ghost use Rattle.forms.specs.Bytes.{letter, small, value, space, wordy};
 ghost use Rattle.property.specs.Marks.{in_class};
 ghost use Rattle.property.specs.Reading.{Passed};
@@ -86,13 +86,13 @@ fn outside(text: &[u8], class: Class) -> Option<usize>
     text.iter().position(|b| !class.has(*b))
 }
 
-// Where the bytes of the class end that stand at a place.
+// Where the bytes of the class end that stand at a place, which counts up to the text's end.
 pub(crate) fn skip(text: &[u8], class: Class, at: usize) -> usize
-    requires { at ≤ length text.now }
-    ensures { Passed (in_class class) text.now at result }
+    ensures { Passed (in_class class) text.now (min at (length text.now)) result }
 {
-    match outside(&text[at..], class) {
-        Some(n) => at + n,
+    let from = at.min(text.len());
+    match outside(&text[from..], class) {
+        Some(n) => from + n,
         None => text.len(),
     }
 }
@@ -112,6 +112,7 @@ pub(crate) fn decimal(digits: &[u8]) -> Option<u32>
 }
 
 // The number that digits write, where all over 65,535 stand as one.
+// Kept a number past the limit: such a piece is refused where it stands, so no method that is read has it.
 pub(crate) fn capped(digits: &[u8]) -> u32
     ensures { result ≡ most digits.now }
 {
@@ -120,7 +121,6 @@ pub(crate) fn capped(digits: &[u8]) -> u32
 
 // Whether a colon comes after the spaces at a place.
 pub(crate) fn colon_next(text: &[u8], at: usize) -> bool
-    requires { at ≤ length text.now }
     ensures { result ≡ (word.first_byte (word.past space (drop at text.now)) == 58) }
 {
     let end = skip(text, Class::Spaces, at);
@@ -129,7 +129,6 @@ pub(crate) fn colon_next(text: &[u8], at: usize) -> bool
 
 // The word that comes after the spaces at a place.
 pub(crate) fn next_word(text: &[u8], at: usize) -> Name
-    requires { at ≤ length text.now }
     ensures { spelling text.now result ≡ word.front wordy (word.past space (drop at text.now)) }
 {
     let from = skip(text, Class::Spaces, at);

@@ -65,7 +65,7 @@ returns-then-not-routed c =
     let last = c.close.new.self in
     lost t u d a (ap (λ (r : Bor (List ℕ)). r.now) c.loop-draft.invariant.0) c.loop-draft.invariant.2
     (subst (ComesNext (view t d) t a) c.in_default.is c.in_ok-found.ensures) c.loop-draft.invariant.1
-    (routed_by (sofar u last) (closing (view u d)) c.as_slice.result.now c.routed.result false c.in_ok-close.ensures c.as_slice.ensures.value c.routed.ensures c.if-not-routed.true)
+    (routed_by (sofar u last) (closing (view u d)) c.as_slice.result.now c.routed.result false (c.in_ok-close.ensures u) c.as_slice.ensures.value c.routed.ensures c.if-not-routed.true)
 
 pub returns : goal.returns
 returns c =
@@ -74,7 +74,7 @@ returns c =
     let d = c.loop-draft.draft in
     let a = c.loop-draft.reader.place in
     let last = c.close.new.self in
-    subst (λ (P : Property). Accepted any_text u P) (sym c.in_ok-close.ensures)
+    subst (λ (P : Property). Accepted any_text u P) (sym (c.in_ok-close.ensures u))
     (well t u d a (ap (λ (r : Bor (List ℕ)). r.now) c.loop-draft.invariant.0) c.loop-draft.invariant.2
     (subst (ComesNext (view t d) t a) c.in_default.is c.in_ok-found.ensures)
-    (routed_by (sofar u last) (closing (view u d)) c.as_slice.result.now c.routed.result true c.in_ok-close.ensures c.as_slice.ensures.value c.routed.ensures c.if-not-routed.false))
+    (routed_by (sofar u last) (closing (view u d)) c.as_slice.result.now c.routed.result true (c.in_ok-close.ensures u) c.as_slice.ensures.value c.routed.ensures c.if-not-routed.false))

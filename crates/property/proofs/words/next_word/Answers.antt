@@ -1,7 +1,7 @@
 use Rattle.std.proofs.Common.{sym, ap, ◌∙◌}
 use Rattle.forms.specs.Bytes.{space, wordy}
 use Rattle.property.specs.Words.{front}
-use Rattle.property.proofs.Texts.{past_passed, front_passed, spelled_slice}
+use Rattle.property.proofs.Texts.{past_passed, passed_in, front_passed, spelled_slice}
 use Rattle.property.proofs.words.next_word.Goals as goal
 
 pub returns : goal.returns
@@ -9,5 +9,5 @@ returns c =
     let t = c.args.text.now in
     let f = c.skip-from.result in
     let q = c.skip.result in
-    spelled_slice t f q c.skip.ensures.low c.skip.ensures.high
-    ∙ sym (ap (front wordy) (past_passed space t c.args.at f c.skip-from.ensures) ∙ front_passed wordy t f q c.skip.ensures)
+    let x = passed_in wordy t f q c.skip-from.ensures.high c.skip.ensures in
+    spelled_slice t f q x.low x.high ∙ sym (ap (front wordy) (past_passed space t c.args.at f c.skip-from.ensures) ∙ front_passed wordy t f q x)

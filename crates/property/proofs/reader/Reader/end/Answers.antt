@@ -1,6 +1,8 @@
 use Rattle.std.proofs.Common.{◌+◌, ◌<◌, ◌≤◌, Bool, length, get_or, sym, ◌∙◌, subst, arith}
+use Rattle.forms.specs.Bytes.{digit, wordy}
 use Rattle.property.specs.Reads.{Lexed}
 use Rattle.property.proofs.Readings.{lexed_byte, lexed_word, lexed_number, lexed_mark, not_padded, padded_zero, wordless, longer}
+use Rattle.property.proofs.Texts.{passed_in}
 use Rattle.property.proofs.reader.Reader.end.Goals as goal
 
 pub returns-then-tight : goal.returns-then-tight
@@ -13,8 +15,9 @@ pub returns-then-is_letter : goal.returns-then-is_letter
 returns-then-is_letter c =
     let t = c.args.self.now.text.now in
     let f = c.args.from in
-    subst (λ (b : Bool). Lexed b t f c.skip.result) (sym (sym c.tight.ensures ∙ c.if-tight.false))
-    (lexed_word t f c.skip.result c.skip.ensures c.requires.within (sym c.is_letter.ensures ∙ c.if-is_letter.true))
+    let q = c.skip.result in
+    subst (λ (b : Bool). Lexed b t f q) (sym (sym c.tight.ensures ∙ c.if-tight.false))
+    (lexed_word t f q (passed_in wordy t f q (let w = c.requires.within in omega arith) c.skip.ensures) c.requires.within (sym c.is_letter.ensures ∙ c.if-is_letter.true))
 
 pub returns-then-not-has : goal.returns-then-not-has
 returns-then-not-has c =
@@ -29,7 +32,7 @@ returns-then-padded c =
     let t = c.args.self.now.text.now in
     let f = c.args.from in
     let q = c.skip-end.result in
-    let x = c.skip-end.ensures in
+    let x = passed_in digit t f q (let w = c.requires.within in omega arith) c.skip-end.ensures in
     let z = padded_zero (get_or t f 0) f q (sym c.padded.ensures ∙ c.if-padded.true) in
     let l : f ≤ f + 1 = omega arith in
     let z1 = z.1 in
@@ -42,7 +45,8 @@ returns c =
     let t = c.args.self.now.text.now in
     let f = c.args.from in
     let q = c.skip-end.result in
+    let x = passed_in digit t f q (let w = c.requires.within in omega arith) c.skip-end.ensures in
     let d = sym c.has.ensures ∙ c.if-not-has.false in
     subst (λ (b : Bool). Lexed b t f q) (sym (sym c.tight.ensures ∙ c.if-tight.false))
-    (lexed_number t f q c.skip-end.ensures c.requires.within d
-    (not_padded (get_or t f 0) f q (longer _ t f q c.skip-end.ensures c.requires.within d) (sym c.padded.ensures ∙ c.if-padded.false)))
+    (lexed_number t f q x c.requires.within d
+    (not_padded (get_or t f 0) f q (longer _ t f q x c.requires.within d) (sym c.padded.ensures ∙ c.if-padded.false)))

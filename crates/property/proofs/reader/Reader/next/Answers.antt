@@ -31,6 +31,3 @@ piece-requires c =
 
 pub returns-in_err-found : goal.returns-in_err-found
 returns-in_err-found c = out _ _ _ c.in_err-found.field-0.0 c.from_residual.ensures.1 c.in_err-found.ensures
-
-pub returns : goal.returns
-returns c = c.in_ok-found.ensures

@@ -1,6 +1,8 @@
 use Rattle.std.proofs.Common.{Bool, sym, ◌∙◌, subst}
+use Rattle.forms.specs.Bytes.{space}
 use Rattle.property.specs.Reads.{Gapped}
 use Rattle.property.proofs.Readings.{gap_tight, gap_loose}
+use Rattle.property.proofs.Texts.{passed_in}
 use Rattle.property.proofs.reader.Reader.start.Goals as goal
 
 pub returns-then-tight : goal.returns-then-tight
@@ -11,4 +13,4 @@ returns-then-tight c =
 pub returns : goal.returns
 returns c =
     subst (λ (b : Bool). Gapped b c.args.self.now.text.now c.args.self.now.place c.skip.result) (sym (sym c.tight.ensures ∙ c.if-tight.false))
-    (gap_loose c.args.self.now.text.now c.args.self.now.place c.skip.result c.skip.ensures)
+    (gap_loose c.args.self.now.text.now c.args.self.now.place c.skip.result (passed_in space c.args.self.now.text.now c.args.self.now.place c.skip.result c.requires c.skip.ensures))
