@@ -1,5 +1,5 @@
 -- From one list of events to the next.
-use Rattle.std.proofs.Common.{◌≡◌, ℕ, suc, ◌+◌, ◌-◌, ◌%◌, ◌≤◌, List, [], ◌∷◌, ◌++◌, length, drop, sym, ap, ◌∙◌, subst, arith, length-append, length-drop}
+use Rattle.std.proofs.Common.{◌≡◌, ℕ, suc, ◌+◌, ◌-◌, ◌%◌, ◌≤◌, List, [], ◌∷◌, ◌++◌, length, take, drop, sym, ap, ◌∙◌, subst, arith, length-append, length-drop}
 use Rattle.std.proofs.lemmas.List.{drop-append-le, length-take-le}
 use Rattle.topl.specs.Lists.{Class}
 use Rattle.topl.specs.Table as T
@@ -15,6 +15,7 @@ use Rattle.engine.specs.Fills.{Tracked}
 use Rattle.engine.specs.Judging.{Held, Decided}
 use Rattle.engine.specs.Windows.{Remembers}
 use Rattle.engine.specs.States.{Follows}
+use Rattle.engine.proofs.Windows.{seen_long}
 
 -- the events of a window with one more
 pub remembers_more : {V : Type 0} (class : V → Class) (W : Window V) (L : List T.Event) (e : T.Event) → Remembers class W (drop (length L - 3) L ++ e ∷ []) → Remembers class W (drop (length L - 3) (L ++ e ∷ []))
@@ -23,11 +24,11 @@ remembers_more class W L e R = subst (Remembers class W) (sym (drop-append-le (l
 -- as many as count
 pub seen_count : {V : Type 0} (class : V → Class) (W : Window V) (L : List T.Event) (b n : ℕ) → b ≤ length L → length L ≡ n → Remembers class W (drop b L) → b + W.seen ≡ n
 seen_count class W L b n l e R =
-    let a = R.0 in
+    let a = seen_long class (take W.seen W.events) (drop b L) R in
     let d = length-drop b L in
     let four = W.four in
     let few = W.few in
-    let t = length-take-le W.seen W.ids (omega arith) in
+    let t = length-take-le W.seen W.events (omega arith) in
     omega arith
 
 module _ {V : Type 0} (class : V → Class) (s t : State V) (g : Grid V) (P : T.Table) (k : Registers) (L : List T.Event) (e : T.Event) (r : Ruling)

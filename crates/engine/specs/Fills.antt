@@ -21,7 +21,7 @@ use Rattle.engine.specs.Grids.{grid_of}
 pub record Watched {V : Type 0} (class : V → Class) (s : Scene V) (base : ℕ) (P : T.Table) (w : World) : Type 0 where
   pub statements : P.statements ≡ map statement s.statements.now
   pub mode : w.mode ≡ mode_of s.mode
-  pub events : Seen class s.ids.now s.window.now (drop base w.events)
+  pub events : Seen class s.events.now (drop base w.events)
 
 -- each configuration at place `slot` is reached at p by the steps of its entry
 abbrev pub Tracked : {V : Type 0} → (V → Class) → ℕ → T.Table → Registers → World → ℕ → Grid V → ℕ → Type 0

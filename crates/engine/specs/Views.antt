@@ -1,5 +1,6 @@
 -- What the code's statements and events stand for in the theory.
-use Rattle.std.specs.Prelude.{◌≡◌, ℕ, ◌*◌, ◌<◌, ◌≤◌, Bool, true, ◌&&◌, List, [], map, length, take, drop, nat_le, nat_lt, slice_index, slice_index_or, vec_items}
+use Rattle.std.specs.Prelude.{◌≡◌, ℕ, ◌<◌, ◌≤◌, Bool, true, ◌&&◌, List, map, length, drop, nat_le, nat_lt, slice_index_or, vec_items}
+use Rattle.std.specs.List.{AllZip}
 use Rattle.topl.specs.Lists.{Class, every}
 use Rattle.topl.specs.Table as T
 use Rattle.topl.specs.Runs as R
@@ -10,6 +11,7 @@ use Rattle.engine.specs.declared.table.Matcher.TheVariants as MV
 use Rattle.engine.specs.declared.table.Statement.{Statement}
 use Rattle.engine.specs.declared.table.Numbered.{Numbered}
 use Rattle.engine.specs.declared.table.Outcome.{Outcome}
+use Rattle.engine.specs.declared.window.Witnessed.{Witnessed}
 use Rattle.engine.specs.declared.table.Outcome.TheVariants.{Passes, Fails, Hangs}
 
 abbrev pub pattern : Pattern → T.Pattern
@@ -48,10 +50,9 @@ Inside (MV.Event g) = (length (vec_items g.patterns) ≤ 6) × ((j : ℕ) → Wi
 abbrev pub Shown : {V : Type 0} → (V → Class) → ℕ → List V → T.Event → Type 0
 Shown class id places e = (id ≡ e.id) × (map class places ≡ T.places e)
 
--- the ids and the places, six for each, of some events
-abbrev pub Seen : {V : Type 0} → (V → Class) → List ℕ → List V → List T.Event → Type 0
-Seen class ids window es =
-    (length es ≡ length ids) × ((j : ℕ) → j < length ids → Shown class (slice_index ids j) (take 6 (drop (6 * j) window)) (slice_index_or es j (record { id = 0; values = [] })))
+-- events of the code are these of the theory
+abbrev pub Seen : {V : Type 0} → (V → Class) → List (Witnessed V) → List T.Event → Type 0
+Seen class xs es = AllZip (λ x e. Shown class x.id x.places e) xs es
 
 -- the outcome, with the registers that it leaves
 abbrev pub told : Outcome → R.Registers → R.Outcome

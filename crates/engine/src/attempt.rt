@@ -1,5 +1,5 @@
 // How a statement fares on the events that come next.
-ghost use Rattle.std.specs.Prelude.{◌≡◌, ℕ, ◌+◌, ◌*◌, ◌<◌, ◌≤◌, true, List, map, length, take, drop};
+ghost use Rattle.std.specs.Prelude.{◌≡◌, ℕ, ◌<◌, ◌≤◌, true, List, map, length, drop};
 ghost use Rattle.topl.specs.Lists.{every};
 ghost use Rattle.topl.specs.Table.{Event as Happening};
 ghost use Rattle.topl.specs.Runs.{fits, meets, written, writes, fares};
@@ -65,17 +65,6 @@ fn write_matcher<K: Kind>(registers: &mut [K::Value], places: &[K::Value], m: &M
     }
 }
 
-// The places of event i of a window.
-fn places_of<V: Copy>(window: &[V], i: usize) -> &[V]
-    requires { 6 * i + 6 ≤ length window.now }
-    ensures are { result.now ≡ take 6 (drop (6 * i) window.now) }
-    ensures six { length result.now ≡ 6 }
-{
-    let from = 6 * i;
-    let to = from + 6;
-    &window[from..to]
-}
-
 // How the matchers of a statement fare from event `from` of the window on. Where they pass, the registers are then those after their writes.
 pub(crate) fn attempt_statement<K: Kind>(
     scene: &Scene<'_, K::Value>,
@@ -83,20 +72,20 @@ pub(crate) fn attempt_statement<K: Kind>(
     from: usize,
     registers: &mut [K::Value],
 ) -> Outcome
-    requires { (every inside matchers.now ≡ true) × (from ≤ length scene.now.ids.now) × (length registers.old ≡ 8) }
-    ensures { (es : List Happening) → Seen K.Kind.class scene.now.ids.now scene.now.window.now es
+    requires { (every inside matchers.now ≡ true) × (from ≤ length scene.now.events.now) × (length registers.old ≡ 8) }
+    ensures { (es : List Happening) → Seen K.Kind.class scene.now.events.now es
         → told result (map K.Kind.class registers.new) ≡ fares (map matcher matchers.now) (map K.Kind.class registers.old) (drop from es) }
 {
     for (j, matcher) in matchers.iter().enumerate() {
         let i = from + j;
-        if i >= scene.ids.len() {
+        if i >= scene.events.len() {
             return Outcome::Hangs;
         }
-        let places = places_of(scene.window, i);
-        if !meets_matcher::<K>(registers, scene.ids[i], places, matcher) {
+        let event = &scene.events[i];
+        if !meets_matcher::<K>(registers, event.id, &event.places, matcher) {
             return Outcome::Fails;
         }
-        write_matcher::<K>(registers, places, matcher);
+        write_matcher::<K>(registers, &event.places, matcher);
     }
     Outcome::Passes
 }

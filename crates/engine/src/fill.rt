@@ -90,8 +90,8 @@ fn is_calm<K: Kind>(
     from: usize,
     held: &[K::Value; 8],
 ) -> bool
-    requires { (every inside matchers.now ≡ true) × (from ≤ length scene.now.ids.now) }
-    ensures { (es : List Happening) → Seen K.Kind.class scene.now.ids.now scene.now.window.now es
+    requires { (every inside matchers.now ≡ true) × (from ≤ length scene.now.events.now) }
+    ensures { (es : List Happening) → Seen K.Kind.class scene.now.events.now es
         → result ≡ calm (mode_of scene.now.mode) (fares (map matcher matchers.now) (map K.Kind.class held.now) (drop from es)) }
 {
     let mut registers = *held;
@@ -109,7 +109,7 @@ fn is_quiet<K: Kind>(
     state: u8,
     held: &[K::Value; 8],
 ) -> bool
-    requires { from ≤ length scene.now.ids.now }
+    requires { from ≤ length scene.now.events.now }
     ensures { (base : ℕ) (P : TheTable) (w : World) → Watched K.Kind.class scene.now base P w
         → result ≡ quiet w (base + from) (configuration K.Kind.class state held.now) (numbered P) }
 {
@@ -136,7 +136,7 @@ fn step_statement<K: Kind>(
     at: Mark,
     held: &[K::Value; 8],
 ) -> Result<(), Entry>
-    requires { (way.from ≤ length scene.now.ids.now) × (way.slot < 5) × (at.entry < grid.old.book.used)
+    requires { (way.from ≤ length scene.now.events.now) × (way.slot < 5) × (at.entry < grid.old.book.used)
         × (fit t.now.events.now ≡ true) }
     ensures safe { Safe way.slot grid.old grid.new result }
     ensures brings { (base : ℕ) (P : TheTable) (k : Registers) (w : World) → Watched K.Kind.class scene.now base P w
@@ -171,7 +171,7 @@ fn step_skip<K: Kind>(
     at: Mark,
     held: &[K::Value; 8],
 ) -> Result<(), Entry>
-    requires { (way.from ≤ length scene.now.ids.now) × (way.slot < 5) × (at.entry < grid.old.book.used) }
+    requires { (way.from ≤ length scene.now.events.now) × (way.slot < 5) × (at.entry < grid.old.book.used) }
     ensures safe { Safe way.slot grid.old grid.new result }
     ensures brings { (base : ℕ) (P : TheTable) (k : Registers) (w : World) → Watched K.Kind.class scene.now base P w
         → Reach P k w (base + way.from) (configuration K.Kind.class at.state held.now) (steps_to grid.old.book.entries.items at.entry)
@@ -181,7 +181,7 @@ fn step_skip<K: Kind>(
     if way.distance != 1 {
         return Ok(());
     }
-    if way.from >= scene.ids.len() {
+    if way.from >= scene.events.len() {
         return Ok(());
     }
     if !is_quiet::<K>(scene, way.from, at.state, held) {
@@ -202,7 +202,7 @@ fn step_configuration<K: Kind>(
     at: Mark,
     held: &[K::Value; 8],
 ) -> Result<(), Entry>
-    requires { (way.from ≤ length scene.now.ids.now) × (way.slot < 5) × (at.entry < grid.old.book.used) }
+    requires { (way.from ≤ length scene.now.events.now) × (way.slot < 5) × (at.entry < grid.old.book.used) }
     ensures safe { Safe way.slot grid.old grid.new result }
     ensures brings { (base : ℕ) (P : TheTable) (k : Registers) (w : World) → Watched K.Kind.class scene.now base P w
         → Reach P k w (base + way.from) (configuration K.Kind.class at.state held.now) (steps_to grid.old.book.entries.items at.entry)
@@ -223,7 +223,7 @@ fn step_row<K: Kind>(
     way: Way,
     source: usize,
 ) -> Result<(), Entry>
-    requires { (way.from ≤ length scene.now.ids.now) × (way.slot < 5) × (source < 5) × (source ≢ way.slot) }
+    requires { (way.from ≤ length scene.now.events.now) × (way.slot < 5) × (source < 5) × (source ≢ way.slot) }
     ensures safe { Safe way.slot grid.old grid.new result }
     ensures brings { (base : ℕ) (P : TheTable) (k : Registers) (w : World) → Watched K.Kind.class scene.now base P w
         → Tracks K.Kind.class P k w (base + way.from) grid.old source
@@ -247,7 +247,7 @@ fn step_rows<K: Kind>(
     base: usize,
     p: usize,
 ) -> Result<(), Entry>
-    requires { (p ≤ base + length scene.now.ids.now) × (base ≤ p) × (p ≤ base + 4) }
+    requires { (p ≤ base + length scene.now.events.now) × (base ≤ p) × (p ≤ base + 4) }
     ensures safe { Safe (p % 5) grid.old grid.new result }
     ensures brings { (P : TheTable) (k : Registers) (w : World) → Watched K.Kind.class scene.now base P w
         → ((q : ℕ) → base ≤ q → q < p → Tracks K.Kind.class P k w q grid.old (q % 5))
@@ -272,7 +272,7 @@ pub(crate) fn fill_position<K: Kind>(
     base: usize,
     p: usize,
 ) -> Filling
-    requires { (p ≤ base + length scene.now.ids.now) × (base ≤ p) × (p ≤ base + 4) }
+    requires { (p ≤ base + length scene.now.events.now) × (base ≤ p) × (p ≤ base + 4) }
     ensures safe { Safe (p % 5) grid.old grid.new (first_error result) }
     ensures fills { (P : TheTable) (k : Registers) (L : List Happening) (w : World) → Watched K.Kind.class scene.now base P w
         → Ready K.Kind.class grid.old.cap (grid_of grid.old) base p P k L w

@@ -28,7 +28,7 @@ fn judge_position<K: Kind>(
     base: usize,
     p: usize,
 ) -> Ruling
-    requires { (p ≤ base + length scene.now.ids.now) × (base ≤ p) × (p ≤ base + 4) }
+    requires { (p ≤ base + length scene.now.events.now) × (base ≤ p) × (p ≤ base + 4) }
     ensures safe { Safe (p % 5) grid.old grid.new (shown_entry result) }
     ensures rules { (P : TheTable) (k : Registers) (L : List Happening) (w : World) → Watched K.Kind.class scene.now base P w
         → Ready K.Kind.class grid.old.cap (grid_of grid.old) base p P k L w
@@ -58,7 +58,7 @@ pub(crate) fn judge<K: Kind>(
     base: usize,
     last: usize,
 ) -> Ruling
-    requires { (last ≡ base + length scene.now.ids.now) × (last < 2 ^ 63) × (last ≤ base + 4) }
+    requires { (last ≡ base + length scene.now.events.now) × (last < 2 ^ 63) × (last ≤ base + 4) }
     ensures cap { grid.new.cap ≡ grid.old.cap }
     ensures board { vec_len grid.new.board ≡ vec_len grid.old.board }
     ensures long { length grid.new.book.entries.items ≡ length grid.old.book.entries.items }

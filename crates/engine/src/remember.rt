@@ -4,8 +4,7 @@ ghost use Rattle.topl.specs.Table.{Event as Happening, calls};
 ghost use Rattle.topl.specs.Theorems.{seen as shown, value_places};
 ghost use Rattle.engine.specs.Windows.{Remembers};
 
-use crate::row::write_at;
-use crate::window::Window;
+use crate::window::{Window, Witnessed};
 use kinds::kind::Kind;
 use std::array;
 
@@ -44,8 +43,7 @@ pub(crate) fn forget<K: Kind>(window: &mut Window<K::Value>)
     if window.seen < 4 {
         return;
     }
-    window.ids.copy_within(1..4, 0);
-    window.places.copy_within(6..24, 0);
+    window.events.copy_within(1..4, 0);
     window.seen = 3;
 }
 
@@ -58,7 +56,6 @@ pub(crate) fn witness<K: Kind>(window: &mut Window<K::Value>, id: u32, values: &
 {
     let at = window.seen;
     let places = places_for::<K>(id, values);
-    window.ids[at] = id;
-    write_at(&mut window.places, 6 * at, &places);
+    window.events[at] = Witnessed { id, places };
     window.seen = at + 1;
 }

@@ -19,7 +19,7 @@ use crate::property::Table;
 use crate::remember::{forget, witness};
 use crate::settle::settle;
 use crate::state::State;
-use crate::window::Window;
+use crate::window::{Window, Witnessed};
 use kinds::kind::Kind;
 
 // So many events are judged at most: fewer than the book has entries.
@@ -47,9 +47,12 @@ impl<K: Kind> Rows<K> {
             book: Book::new(entries),
             cap: 0,
         };
+        let blank = Witnessed {
+            id: 0,
+            places: [K::nothing(); 6],
+        };
         let window = Window {
-            ids: [0; 4],
-            places: [K::nothing(); 24],
+            events: [blank; 4],
             seen: 0,
         };
         Rows {

@@ -34,12 +34,10 @@ pub(crate) fn settle<K: Kind>(
 {
     let window = &s.window;
     let seen = window.seen;
-    let ids = &window.ids[..seen];
-    let places = &window.places[..6 * seen];
+    let events = &window.events[..seen];
     let scene = Scene {
         statements: table.statements(),
-        ids,
-        window: places,
+        events,
         mode,
     };
     judge::<K>(&mut s.grid, &scene, base, base + seen)

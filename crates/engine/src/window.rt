@@ -1,13 +1,19 @@
 // The last events that a watch remembers.
 ghost use Rattle.std.specs.Prelude.{◌≡◌, ◌≤◌, length};
 
-// The ids of at most four events, and the six places of each; the first `seen` count.
+// An event as the moves see it: its id, and its six places.
+#[derive(Clone, Copy)]
+pub struct Witnessed<V> {
+    pub(crate) id: u32,
+    pub(crate) places: [V; 6],
+}
+
+// At most four events, of which the first `seen` count.
+// Kept a count beside the array: the edit that makes a window with five events seen has to stay one that can be written.
 #[derive(Drop)]
 pub struct Window<V> {
-    pub(crate) ids: [u32; 4],
-    pub(crate) places: [V; 24],
+    pub(crate) events: [Witnessed<V>; 4],
     pub(crate) seen: usize,
-    ghost four: { length ids ≡ 4 },
-    ghost many: { length places ≡ 24 },
+    ghost four: { length events ≡ 4 },
     ghost few: { seen ≤ 4 },
 }

@@ -5,6 +5,6 @@ use Rattle.engine.specs.Views.{matcher, Seen}
 use Rattle.engine.proofs.attempt.attempt_statement.Given as goal
 
 abbrev pub invariant-loop-j : goal.invariant-loop-j
-invariant-loop-j g l = (es : List Event) → Seen g.K.Kind.class l.scene.ids.now l.scene.window.now es →
+invariant-loop-j g l = (es : List Event) → Seen g.K.Kind.class l.scene.events.now es →
     fares (map matcher l.matchers) (map g.K.Kind.class l.initial.registers) (drop l.from es)
     ≡ fares (drop l.j (map matcher l.matchers)) (map g.K.Kind.class l.registers) (drop (l.from + l.j) es)

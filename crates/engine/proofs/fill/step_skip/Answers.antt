@@ -7,6 +7,7 @@ use Rattle.engine.specs.Trails.{steps_by}
 use Rattle.engine.specs.Fronts.{configuration}
 use Rattle.engine.specs.Fills.{Brings}
 use Rattle.engine.proofs.Fills.{brings_none, safe_none, far_skips, loud_skips}
+use Rattle.engine.proofs.Windows.{seen_long}
 use Rattle.engine.proofs.fill.step_skip.Goals as goal
 
 pub returns-then-way-ne1 : goal.returns-then-way-ne1
@@ -24,7 +25,7 @@ returns-then-way-scene g c =
     let d = configuration g.K.Kind.class c.args.at.state c.args.held.now in record {
       safe = safe_none c.args.way.slot s;
       brings = λ base P k w W r.
-          let n = W.events.0 in
+          let n = seen_long g.K.Kind.class c.args.scene.now.events.now (drop base w.events) W.events in
           let l : length (drop base w.events) ≤ c.args.way.from = omega (arith, c.if-way-scene.true) in
           brings_none g.K.Kind.class c.args.way.slot P k w (base + c.args.way.from + c.args.way.distance) c.requires.1 s _
           (ap (landed (base + c.args.way.from + c.args.way.distance)) (skips_late P w base c.args.way.from d l));
@@ -48,7 +49,7 @@ returns g c = record {
       let d = configuration class c.args.at.state c.args.held.now in
       let q = base + c.args.way.from in
       let p = q + c.args.way.distance in
-      let n = W.events.0 in
+      let n = seen_long g.K.Kind.class c.args.scene.now.events.now (drop base w.events) W.events in
       let l : c.args.way.from < length (drop base w.events) = omega (arith, c.if-way-scene.false) in
       let m = length-drop base w.events in
       let h = sym c.if-not-is_quiet.false ∙ c.is_quiet.ensures base P w W in

@@ -57,6 +57,6 @@ returns g c =
             held = λ q l m. let z : 0 ≡ q = omega arith in only_held class cap (grid G _ es b.used) P k q z h;
             tracked = λ q l m. let z : 0 ≡ q = omega arith in only_tracked class cap (grid G _ es b.used) P k q z t;
             total = omega arith;
-            window = (refl, λ j l. absurd (omega arith));
+            window = tt;
           };
     }

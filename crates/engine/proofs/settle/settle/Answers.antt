@@ -1,4 +1,4 @@
-use Rattle.std.proofs.Common.{◌*◌, map, refl, sym, ap, arith}
+use Rattle.std.proofs.Common.{map, refl, sym, ap, arith}
 use Rattle.std.proofs.lemmas.List.{length-take-le}
 use Rattle.engine.specs.Views.{statement}
 use Rattle.engine.proofs.settle.settle.Goals as goal
@@ -7,15 +7,14 @@ pub invariant_of-scene : goal.invariant_of-scene
 invariant_of-scene g c =
     let W = c.args.s.now.window in
     let few = W.few in
-    let a = length-take-le W.seen W.ids (omega (arith, W.four)) in
-    let b = length-take-le (6 * W.seen) W.places (omega (arith, W.many)) in
-    record { sound = c.statements.ensures.sound; few = c.statements.ensures.few; six = omega arith }
+    let a = length-take-le W.seen W.events (omega (arith, W.four)) in
+    record { sound = c.statements.ensures.sound; few = c.statements.ensures.few }
 
 pub judge-requires : goal.judge-requires
 judge-requires g c =
     let W = c.args.s.now.window in
     let few = W.few in
-    let a = length-take-le W.seen W.ids (omega (arith, W.four)) in
+    let a = length-take-le W.seen W.events (omega (arith, W.four)) in
     (omega arith, omega (arith, c.requires), omega arith)
 
 pub returns : goal.returns
