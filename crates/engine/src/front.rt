@@ -5,6 +5,8 @@ ghost use Rattle.engine.specs.Fronts.{Added, Bare, Cleared, states_at};
 use crate::entry::Entry;
 
 // Sixty-four places for each of five positions, of which the first `counts` are in use; whether more configurations came than may be.
+// Kept three arrays in step: the watch allocates nothing once it is made, and a row's states are searched as one slice.
+// Kept a flag for the spill: a run to `error` is still sought after it, and decides before it.
 #[derive(Clone, Copy)]
 pub struct Front {
     pub states: [u8; 320],
