@@ -10,6 +10,7 @@ pub enum Standing {
 }
 
 // The phase, the count of judged events and, if it is broken, the position.
+// Kept beside each other: the phase is an answer whose name a definition gives, so it holds no position.
 #[derive(Clone, Copy)]
 pub struct Verdict {
     pub phase: Phase,
