@@ -9,7 +9,7 @@ pub struct Witnessed<V> {
 }
 
 // At most four events, of which the first `seen` count.
-// Kept a count beside the array: the edit that makes a window with five events seen has to stay one that can be written.
+// Kept a count beside the array: an `ArrayVec` takes an element out only of a type with a default, which a kind's values need not have.
 #[derive(Drop)]
 pub struct Window<V> {
     pub(crate) events: [Witnessed<V>; 4],
