@@ -44,9 +44,9 @@ chosen None hs = hs
 chosen (Some methods) hs = only (take 32 methods) hs
 
 -- What is listed of a journal under a kind: the refusal of its head, or the chosen ones of the events that it records and how they end.
-pub data Lists {V : Type 0} (code : ℕ) (reads : List ℕ → Result (V × ℕ) Fault) (title : List ℕ) (shown : V → List ℕ) (methods : Option (List ℕ)) (bytes : List ℕ) : List ℕ → Type 0 where
-  unopened : (f : Refusal) → head_refusal code bytes ≡ Some f → Lists code reads title shown methods bytes (refusal_line f)
-  opened : (hs : List (Happening V)) (n : Ending) → head_refusal code bytes ≡ None → Recorded reads bytes 2 hs n → Lists code reads title shown methods bytes (listing_as title shown (chosen methods hs) n)
+pub data Lists {V : Type 0} (number : ℕ) (reads : List ℕ → Result (V × ℕ) Fault) (title : List ℕ) (shown : V → List ℕ) (methods : Option (List ℕ)) (bytes : List ℕ) : List ℕ → Type 0 where
+  unopened : (f : Refusal) → head_refusal number bytes ≡ Some f → Lists number reads title shown methods bytes (refusal_line f)
+  opened : (hs : List (Happening V)) (n : Ending) → head_refusal number bytes ≡ None → Recorded reads bytes 2 hs n → Lists number reads title shown methods bytes (listing_as title shown (chosen methods hs) n)
 
 -- A journal of numbers, and one of labels.
 abbrev pub NumbersListed : Option (List ℕ) → List ℕ → List ℕ → Type 0

@@ -2,8 +2,7 @@
 ghost use Rattle.std.specs.Prelude.{◌≡◌, ℕ, ◌<◌, ◌≤◌, ◌⊎◌, Decides};
 ghost use Rattle.forms.specs.Forms.{Before};
 
-// A fault that was found: its number and its place.
-// Findings are ordered by their places, and at one place by their numbers.
+// A fault that was found: its place and its number. Findings are ordered by place, and at one place by number.
 #[derive(Clone, Copy, PartialEq, Eq, PartialOrd, Ord, Debug)]
 pub struct Finding {
     pub place: usize,

@@ -1,4 +1,4 @@
--- The bytes of labels. Assumes nothing.
+-- The steps of a label's reading. Assumes nothing.
 use Rattle.std.specs.Prelude.{◌≡◌, ℕ, ◌+◌, ◌<◌, ◌≤◌, true, false, ◌||◌, ◌⊎◌, List, length, take, drop, Ok, Err, ◌==◌, ◌≢◌, nat_lt}
 use Rattle.std.proofs.Common.{ap, ⊎_elim}
 use Rattle.std.proofs.lemmas.Bool.{or_left, or_right, or_from, eq-eqb, ne_eqb, lt-ltb, le-ltb}

@@ -17,8 +17,10 @@ pub trait Kind {
     // The most bytes that one value takes.
     const LONGEST: usize;
 
+    // NUMBER, in clauses.
     ghost NUMBER: { ℕ };
 
+    // LONGEST, in clauses.
     ghost LONGEST: { ℕ };
 
     // The class of a value: values of one class are the same.

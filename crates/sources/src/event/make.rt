@@ -90,6 +90,7 @@ impl<V: Copy> Event<V> {
     pub fn place(&self, nothing: V, place: usize) -> V
         ensures { result ≡ slice_index_or (places nothing (says self.now)) place nothing }
     {
+        // Kept a match: through `and_then` the goal `returns` stays open.
         match self.index_at(place) {
             Some(i) => self.values().get(i).copied().unwrap_or(nothing),
             None => nothing,

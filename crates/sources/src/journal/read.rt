@@ -26,7 +26,8 @@ const MOST_BYTES: usize = 65_536;
 const VERSION: u8 = 1;
 
 // What a reading finds at the place, which then moves past it; a fault is placed there, and nothing moves.
-// Kept bytes and place as two parameters: the guard borrows the place alone, so that it can put it back on every way out.
+// Kept bytes and place as two parameters, each time with the fact that the place is within: the guard borrows the place alone, to put it back on every way out.
+// A reading is passed in a closure: a function by its name "does not fit the bound `Fn` yet", says the checker.
 fn take<V: Copy, R: Fn(&[u8]) -> Result<(V, usize), Fault>>(
     bytes: &[u8],
     place: &mut Place,
@@ -57,6 +58,7 @@ fn take_event<K: Kind>(
     ensures within { place.new.at ≤ length bytes.now }
 {
     let mut event = Event::bare(K::nothing(), id);
+    // A counted loop that reads no index: each turn takes one value.
     for _i in 0..count {
         event.push(take(bytes, place, |b: &[u8]| K::read(b))?);
     }
