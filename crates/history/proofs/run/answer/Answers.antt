@@ -1,7 +1,6 @@
 use Rattle.std.proofs.Common.{◌≡◌, vec_items, refl, ap, ◌∙◌, arith}
 use Rattle.std.specs.Vec.{with_items}
 use Rattle.std.proofs.lemmas.List.{with_items_is}
-use Rattle.std.proofs.lemmas.Result.{MatchResult-from_err}
 use Rattle.topl.specs.Ledger.{wrote, unwritten, path_on}
 use Rattle.watch.specs.Answers.{began, told, drew, tells}
 use Rattle.history.specs.declared.call.Answer.TheVariants.{Tells, Wrote, Unwritten}
@@ -69,6 +68,3 @@ returns-in-Err g c l sh =
       path_at g.K.Kind.class l l (meant g.K.Kind.class g.S.Source.waiting g.S.Source.ending c.args.sources.now) c.args.call (Unwritten c.in-Err.refusal (with_items c.in_ok-page-in-Path.page c.path.new.page)) (unwritten c.in-Err.refusal after) refl c.in-Path.bytes c.in-Path.is
           (ap (unwritten c.in-Err.refusal) e ∙ c.in-Err.ensures l sh ∙ ap (path_on l) v),
     )
-
-pub returns-in_err-page-in-Path : goal.returns-in_err-page-in-Path
-returns-in_err-page-in-Path g c = MatchResult-from_err c.from_residual.result _ _ c.from_residual.ensures.0 (λ y. refl)
