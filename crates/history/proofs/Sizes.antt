@@ -21,11 +21,17 @@ below h k = omega arith
 
 module _ (a s : ℕ) where
   -- the alignments and sizes of a watch's structs, over values of alignment a and size s, as they lie in one another
+  abbrev event_align : ℕ
+  event_align = max 4 (max a 1)
+
+  abbrev event_size : ℕ
+  event_size = up event_align (up a 4 + 6 * s)
+
   abbrev window_align : ℕ
-  window_align = max 4 (max a 8)
+  window_align = max event_align 8
 
   abbrev window_size : ℕ
-  window_size = up window_align (up 8 (up a 16 + 24 * s) + 8)
+  window_size = up window_align (up 8 (up event_align 0 + 4 * event_size) + 8)
 
   abbrev state_align : ℕ
   state_align = max 8 (max window_align 1)
@@ -46,8 +52,11 @@ module _ (a s : ℕ) where
     eight : 8 ≤ 2 ^ 32
     eight = lit≤ tt
 
+    v : event_align ≤ 2 ^ 32
+    v = larger (lit≤ tt) (larger h (lit≤ tt))
+
     w : window_align ≤ 2 ^ 32
-    w = larger (lit≤ tt) (larger h eight)
+    w = larger v eight
 
     t : state_align ≤ 2 ^ 32
     t = larger eight (larger w (lit≤ tt))
@@ -61,5 +70,5 @@ module _ (a s : ℕ) where
     pub watch_fits : watch_size < 2 ^ 63
     watch_fits =
         below (rounded (larger r eight) (plus (rounded eight (plus (rounded r (same 0)) (rounded r (plus (rounded t (same 0))
-        (rounded t (plus (rounded w (same 1072)) (rounded w (plus (rounded eight (plus (rounded h (same 16)) (times 24 k))) (same 8))))))))) (same 32)))
+        (rounded t (plus (rounded w (same 1072)) (rounded w (plus (rounded eight (plus (rounded v (same 0)) (times 4 (rounded v (plus (rounded h (same 4)) (times 6 k)))))) (same 8))))))))) (same 32)))
         (lit< tt)
