@@ -29,6 +29,7 @@ reads_in x ss = filter_map (read_place x) ss
 abbrev pub exposed : ℕ → List Event → List ℕ
 exposed x es = flat_map (λ e. reads_in x (slots_of e)) (through (event_writes x) es)
 
+-- The least of some places.
 abbrev pub least : List ℕ → Option ℕ
 least ns = reduce min ns
 

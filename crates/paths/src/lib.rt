@@ -41,10 +41,7 @@ fn events(statement: &Statement) -> &[Event]
 fn writes(slot: &Slot, x: usize) -> bool
     ensures { result ≡ slot_writes x slot.now }
 {
-    match slot.pattern {
-        Pattern::Write(r) => r == x,
-        _ => false,
-    }
+    matches!(slot.pattern, Pattern::Write(r) if r == x)
 }
 
 // Whether an event writes a register.
@@ -97,6 +94,7 @@ fn statement_read(statement: &Statement, x: usize) -> Option<usize>
 }
 
 // The states that are found to be reached with no write of a register.
+// Kept the statements and the register as parameters: a struct of the two would be made at one place, and each function here would take it apart.
 #[derive(Clone, Copy)]
 struct Reached {
     seen: [bool; 17],
@@ -127,7 +125,7 @@ impl Reached {
         self.seen[state(q)] = true;
     }
 
-    // Whether a statement leads from one of them to another state, with no write.
+    // Whether a statement leads from one of them to a state that is not among them, with no write.
     fn leaves(&self, s: &Statement, x: usize) -> bool
         ensures { result ≡ (not (statement_writes x s.now)
             && (get_or self.now.seen (state_of s.now.source) false && not (get_or self.now.seen (state_of s.now.target) false))) }
@@ -145,7 +143,7 @@ impl Reached {
     }
 
     // The least place at which a statement that leaves one of them reads a register that no earlier event of it writes.
-    fn first_read(&self, statements: &[Statement], x: usize) -> Option<usize>
+    fn least_read(&self, statements: &[Statement], x: usize) -> Option<usize>
         ensures { result ≡ least (filter_map (λ s. least (exposed x (events_of s))) (filter (λ s. get_or self.now.seen (state_of s.source) false) statements.now)) }
     {
         let from = statements.iter().filter(|s| self.has(s.source));
@@ -168,7 +166,7 @@ fn unwritten(statements: &[Statement], x: usize) -> Reached
 fn first_read(statements: &[Statement], x: usize) -> Option<usize>
     ensures { FirstOpen statements.now x result }
 {
-    unwritten(statements, x).first_read(statements, x)
+    unwritten(statements, x).least_read(statements, x)
 }
 
 // The smaller of two numbers, of which each may be missing.

@@ -1,7 +1,8 @@
 -- Parts of what a piece adds.
-use Rattle.std.specs.Prelude.{ℕ, List}
+use Rattle.std.specs.Prelude.{ℕ, List, Some, None, Option}
 use Rattle.property.specs.States.{State, Key, holding, visiting, with_method}
 use Rattle.property.specs.States.{visited as with_visit}
+use Rattle.property.specs.declared.table.Method.{Method}
 
 -- A state is written.
 abbrev pub visit : List ℕ → State → State
@@ -14,3 +15,12 @@ hold k p = record { cursor = p.cursor; word = p.word; sofar = holding k p.sofar 
 -- The method of a line is declared, with an arity.
 abbrev pub declare : ℕ → State → State
 declare a p = record { cursor = p.cursor; word = p.word; sofar = with_method (record { name = p.word; number = p.cursor.number; arity = a }) p.sofar }
+
+-- The number and the arity of a method, 0 where there is none.
+abbrev pub number_of : Option Method → ℕ
+number_of None = 0
+number_of (Some m) = m.number
+
+abbrev pub arity_of : Option Method → ℕ
+arity_of None = 0
+arity_of (Some m) = m.arity

@@ -1,4 +1,4 @@
--- Words of a text, and searches in lists.
+-- Words of a text.
 use Rattle.std.specs.Prelude.{ℕ, ◌+◌, Bool, cond, ◌||◌, List, [], ◌∷◌, length, codes, nat_lt, bytes_eq}
 use Rattle.forms.specs.Bytes.{capital}
 

@@ -34,7 +34,7 @@ impl Draft {
     }
 
     // The method of a name.
-    fn method(&self, text: &[u8], w: &[u8]) -> Option<Method>
+    pub(crate) fn method(&self, text: &[u8], w: &[u8]) -> Option<Method>
         ensures { result ≡ find (λ m. word.same w.now (spelling text.now m.name)) self.now.methods.items }
     {
         self.methods
@@ -44,7 +44,7 @@ impl Draft {
     }
 
     // The place of the register of a constant or a variable.
-    fn register(&self, text: &[u8], register: Register) -> Option<usize>
+    pub(crate) fn register(&self, text: &[u8], register: Register) -> Option<usize>
         ensures { result ≡ position (λ g. same_key (key_of text.now register) (key_of text.now g)) self.now.registers.items }
     {
         self.registers.iter().position(|g| register.same(*g, text))
@@ -65,28 +65,17 @@ impl Draft {
     }
 
     // The number of a state, which is the next one where it was not written yet, and 16 for all past the fifteenth.
-    // Kept a number for those past it: such a state is refused where it stands, so no statement that is read has it.
+    // Kept a number for those past it: the definition state_number gives it, and an Option would be made 16 by its one caller; a text with so many states is refused, though not always here.
     pub(crate) fn state_number(&self, text: &[u8], w: &[u8]) -> usize
         ensures { result ≡ state.state_number (sofar text.now self.now).others w.now }
     {
         if is_start(w) {
-            return 0;
+            return START;
         }
         if is_error(w) {
-            return 1;
+            return ERROR;
         }
         2 + self.other(text, w).unwrap_or(self.others.len()).min(14)
-    }
-
-    // The number and the arity of the method of a name, 0 where none is declared.
-    // Kept 0 for none: such a name is refused where it stands, so no label that is read has it.
-    pub(crate) fn called(&self, text: &[u8], w: &[u8]) -> (u32, usize)
-        ensures { let m = state.method_of (sofar text.now self.now) w.now in (result.0 ≡ m.number) × (result.1 ≡ m.arity) }
-    {
-        match self.method(text, w) {
-            Some(method) => (method.number, method.arity),
-            None => (0, 0),
-        }
     }
 
     // Whether a method of the name is declared.

@@ -152,7 +152,7 @@ impl Draft {
     {
         self.fresh_variable_flaw(text, found.name).or_else(|| {
             fault(
-                is_capital(found.byte) && self.twice(text, found.name),
+                found.byte.is_ascii_uppercase() && self.twice(text, found.name),
                 TextReason::WrittenTwice,
             )
         })
@@ -190,7 +190,7 @@ impl Draft {
         if self.cursor.statement.span >= 3 {
             return late_flaw(spelled(text, found.name), found.byte);
         }
-        if is_letter(found.byte) {
+        if found.byte.is_ascii_alphabetic() {
             return self.fresh_variable_flaw(text, found.name);
         }
         self.pattern_flaw(text, found)

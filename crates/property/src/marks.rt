@@ -50,27 +50,6 @@ pub fn classify(c: char) -> Mark
     }
 }
 
-// Whether a byte is a capital letter.
-pub(crate) fn is_capital(b: u8) -> bool
-    ensures { result ≡ capital b }
-{
-    matches!(classify(b as char), Mark::Capital)
-}
-
-// Whether a byte is a small letter.
-pub(crate) fn is_small(b: u8) -> bool
-    ensures { result ≡ small b }
-{
-    matches!(classify(b as char), Mark::Small)
-}
-
-// Whether a byte is a letter.
-pub(crate) fn is_letter(b: u8) -> bool
-    ensures { result ≡ letter b }
-{
-    matches!(classify(b as char), Mark::Capital | Mark::Small)
-}
-
 // The bytes that make up one piece of a text.
 #[derive(Clone, Copy)]
 pub enum Class {

@@ -1,6 +1,6 @@
 // What each piece of a text adds to a draft.
 ghost use Rattle.std.specs.Prelude.{◌≡◌, ℕ, ◌+◌, ◌<◌, ◌≤◌, true, false, List, [], ◌∷◌, ◌++◌, length, if◌then◌else◌, OnOk, IfOk, nat_eq};
-ghost use Rattle.property.specs.Moves.{visit, hold, declare};
+ghost use Rattle.property.specs.Moves.{visit, hold, declare, number_of, arity_of};
 ghost use Rattle.forms.specs.Bytes.{capital};
 ghost use Rattle.property.specs.Cursors as cursor;
 ghost use Rattle.property.specs.States as state;
@@ -45,10 +45,11 @@ impl Draft {
     fn hold(&mut self, text: &[u8], register: Register) -> Result<usize, AllocError>
         ensures { IfOk result (λ n. (n ≡ state.register_of (sofar text.now self.old) (key_of text.now register)) × (view text.now self.new ≡ hold (key_of text.now register) (view text.now self.old))) }
     {
-        let number = self.register_number(text, register);
-        if number == self.registers.len() {
-            self.registers.push(register)?;
+        if let Some(number) = self.register(text, register) {
+            return Ok(number);
         }
+        let number = self.registers.len();
+        self.registers.push(register)?;
         Ok(number)
     }
 
@@ -222,10 +223,7 @@ impl Draft {
         ensures { OnOk result (view text.now self.new ≡ state.inner_moved Inner.Negated (view text.now self.old) (spelling text.now name) 0 0) }
     {
         let register = self.hold(text, Register::Variable(name))?;
-        self.cursor = self.cursor.filled(Slot {
-            pattern: Pattern::Differs(register),
-            place: self.cursor.label.place,
-        });
+        self.cursor = self.cursor.inside(Pattern::Differs(register));
         Ok(())
     }
 
@@ -234,10 +232,7 @@ impl Draft {
         ensures { OnOk result (view text.now self.new ≡ state.inner_moved Inner.Quoted (view text.now self.old) (spelling text.now name) 0 0) }
     {
         let register = self.hold(text, Register::Constant(name))?;
-        self.cursor = self.cursor.filled(Slot {
-            pattern: Pattern::Same(register),
-            place: self.cursor.label.place,
-        });
+        self.cursor = self.cursor.inside(Pattern::Same(register));
         self.cursor.spot = Spot::Inner(Inner::Unquote);
         Ok(())
     }
@@ -247,7 +242,7 @@ impl Draft {
 fn begins_capital(w: &[u8]) -> bool
     ensures { result ≡ capital (first_byte w.now) }
 {
-    w.first().is_some_and(|b| is_capital(*b))
+    w.first().is_some_and(|b| b.is_ascii_uppercase())
 }
 
 impl Cursor {
@@ -260,6 +255,14 @@ impl Cursor {
         self
     }
 
+    // The cursor, where the pattern is read that began at the label's place.
+    fn inside(self, pattern: Pattern) -> Cursor
+        ensures { result ≡ cursor.filled (record { pattern = pattern; place = self.label.place }) self }
+    {
+        let place = self.label.place;
+        self.filled(Slot { pattern, place })
+    }
+
     // The cursor, where a label begins, of a kind, at a place, and goes on at a spot.
     fn labelled(mut self, kind: Kind, place: usize, count: usize, spot: Spot) -> Cursor
         ensures { result ≡ cursor.to spot (cursor.counted count (cursor.labelled (cursor.opened kind place) self)) }
@@ -270,12 +273,12 @@ impl Cursor {
         self
     }
 
-    // The cursor, where the method of the label is read.
-    fn called(mut self, number: u32, arity: usize) -> Cursor
-        ensures { result ≡ state.callee_at self.label.kind (cursor.labelled (cursor.naming number arity self.label) self) }
+    // The cursor, where the method of the label is read; 0 stands for the number and the arity where none is declared.
+    fn called(mut self, method: Option<Method>) -> Cursor
+        ensures { result ≡ state.callee_at self.label.kind (cursor.labelled (cursor.naming (number_of method) (arity_of method) self.label) self) }
     {
-        self.label.number = number;
-        self.label.arity = arity;
+        self.label.number = method.map_or(0, |m| m.number);
+        self.label.arity = method.map_or(0, |m| m.arity);
         match self.label.kind {
             Kind::Return => self.finished(),
             _ => {
@@ -354,8 +357,8 @@ impl Draft {
     fn callee(&mut self, text: &[u8], name: Name)
         ensures { view text.now self.new ≡ state.calling (spelling text.now name) (view text.now self.old) }
     {
-        let (number, arity) = self.called(text, spelled(text, name));
-        self.cursor = self.cursor.called(number, arity);
+        let method = self.method(text, spelled(text, name));
+        self.cursor = self.cursor.called(method);
     }
 
     // A mark after a label.

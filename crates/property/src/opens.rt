@@ -27,7 +27,7 @@ impl Head {
             Head::Margin => b == b' ' || b == b'p',
             Head::Keyword => b == KEYWORD[count.min(7)],
             Head::Gap => b == b' ',
-            Head::Title => is_letter(b),
+            Head::Title => b.is_ascii_alphabetic(),
         }
     }
 }
@@ -77,16 +77,15 @@ impl Label {
     pub(crate) fn opens(self, b: u8) -> bool
         ensures { result ≡ label_opens self b }
     {
-        match (self, classify(b as char)) {
-            (Label::Begin, _) => begins_pattern(b),
-            (Label::Star, Mark::Colon | Mark::Semicolon | Mark::Newline) => true,
-            (Label::Becomes, Mark::Colon) => true,
-            (Label::Equals, Mark::Equals) => true,
-            (Label::Callee, Mark::Capital | Mark::Small) => true,
-            (Label::Open, Mark::Open) => true,
-            (Label::Comma, Mark::Comma | Mark::Close) => true,
-            (Label::End, Mark::Semicolon | Mark::Newline) => true,
-            _ => false,
+        match self {
+            Label::Begin => begins_pattern(b),
+            Label::Star => matches!(b, b':' | b';' | b'\n'),
+            Label::Becomes => b == b':',
+            Label::Equals => b == b'=',
+            Label::Callee => b.is_ascii_alphabetic(),
+            Label::Open => b == b'(',
+            Label::Comma => matches!(b, b',' | b')'),
+            Label::End => matches!(b, b';' | b'\n'),
         }
     }
 
@@ -103,14 +102,12 @@ impl Inner {
     pub(crate) fn opens(self, b: u8) -> bool
         ensures { result ≡ inner_opens self b }
     {
-        match (self, classify(b as char)) {
-            (Inner::Returned | Inner::Param, _) => begins_pattern(b),
-            (Inner::First, Mark::Close) => true,
-            (Inner::First, _) => begins_pattern(b),
-            (Inner::Negated, Mark::Small) => true,
-            (Inner::Quoted, _) => is_letter(b),
-            (Inner::Unquote, Mark::Greater) => true,
-            _ => false,
+        match self {
+            Inner::Returned | Inner::Param => begins_pattern(b),
+            Inner::First => b == b')' || begins_pattern(b),
+            Inner::Negated => b.is_ascii_lowercase(),
+            Inner::Quoted => b.is_ascii_alphabetic(),
+            Inner::Unquote => b == b'>',
         }
     }
 }

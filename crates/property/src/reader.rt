@@ -41,6 +41,7 @@ pub struct Found {
 }
 
 // The text and the place that it has been read to.
+// Kept without an invariant, so that its functions require a place within the text: its fields are public, and an invariant would ask more of whoever makes one.
 #[derive(Drop)]
 pub struct Reader<'a> {
     pub text: &'a [u8],
@@ -78,7 +79,7 @@ impl Reader<'_> {
         if spot.tight() {
             return Ok(from + 1);
         }
-        if is_letter(self.text[from]) {
+        if self.text[from].is_ascii_alphabetic() {
             return Ok(skip(self.text, Class::Wordy, from));
         }
         if !Class::Digits.has(self.text[from]) {

@@ -52,6 +52,7 @@ pub enum Inner {
     Unquote,
 }
 
+// Where the reader stands: in the first line, in another line, before a statement's labels, in a label, or in a pattern.
 #[derive(Clone, Copy)]
 pub enum Spot {
     Head(Head),

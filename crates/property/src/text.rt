@@ -14,6 +14,7 @@ use crate::draft::*;
 use crate::moves::*;
 use crate::reader::*;
 use crate::table::*;
+use crate::words::*;
 use forms::finding::Finding;
 use kinds::text_reason::TextReason;
 use std::alloc::{AllocError, Global};
@@ -55,6 +56,7 @@ impl Draft {
     pub fn new(heap: Global) -> Draft
         ensures { (t : List ℕ) → view t result ≡ nothing_read }
     {
+        // Kept an empty name for those not read yet: an Option would be asked by all who read a finished draft, which has them.
         let nowhere = Name { from: 0, to: 0 };
         Draft {
             cursor: Cursor::origin(),
@@ -80,14 +82,14 @@ fn routed(statements: &[Statement]) -> bool
 fn leaves_start(statements: &[Statement]) -> bool
     ensures { result ≡ list_any (λ s. nat_eq s.source 0) statements.now }
 {
-    statements.iter().any(|s| s.source == 0)
+    statements.iter().any(|s| s.source == START)
 }
 
 // Whether some statement leads to `error`.
 fn reaches_error(statements: &[Statement]) -> bool
     ensures { result ≡ list_any (λ s. nat_eq s.target 1) statements.now }
 {
-    statements.iter().any(|s| s.target == 1)
+    statements.iter().any(|s| s.target == ERROR)
 }
 
 // The draft of a text of any length, or why there is none.

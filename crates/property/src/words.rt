@@ -23,11 +23,15 @@ pub(crate) fn spelled<'a>(text: &'a [u8], name: Name) -> &'a [u8]
 pub(crate) fn reserved(w: &[u8]) -> bool
     ensures { result ≡ word.reserved w.now }
 {
-    w == b"property".as_slice()
-        || w == b"method".as_slice()
-        || w == b"call".as_slice()
-        || w == b"ret".as_slice()
+    [b"property".as_slice(), b"method", b"call", b"ret"]
+        .iter()
+        .any(|r| w == *r)
 }
+
+// The numbers of the states that each property has.
+pub(crate) const START: usize = 0;
+
+pub(crate) const ERROR: usize = 1;
 
 // Whether a word is the state that each property starts in.
 pub(crate) fn is_start(w: &[u8]) -> bool
@@ -72,8 +76,8 @@ impl Register {
         ensures { let b = word.first_byte (spelling text.now (name_of self)) in result ≡ (if is_constant self then letter b else small b) }
     {
         match (self, spelled(text, self.name())) {
-            (Register::Constant(_), [b, ..]) => is_letter(*b),
-            (Register::Variable(_), [b, ..]) => is_small(*b),
+            (Register::Constant(_), [b, ..]) => b.is_ascii_alphabetic(),
+            (Register::Variable(_), [b, ..]) => b.is_ascii_lowercase(),
             _ => false,
         }
     }
@@ -112,7 +116,7 @@ pub(crate) fn decimal(digits: &[u8]) -> Option<u32>
 }
 
 // The number that digits write, where all over 65,535 stand as one.
-// Kept a number past the limit: such a piece is refused where it stands, so no method that is read has it.
+// Kept a number past the limit: the definition capped gives it, and each of the two callers would make it of an Option.
 pub(crate) fn capped(digits: &[u8]) -> u32
     ensures { result ≡ most digits.now }
 {
@@ -124,7 +128,7 @@ pub(crate) fn colon_next(text: &[u8], at: usize) -> bool
     ensures { result ≡ (word.first_byte (word.past space (drop at text.now)) == 58) }
 {
     let end = skip(text, Class::Spaces, at);
-    end < text.len() && text[end] == b':'
+    text.get(end) == Some(&b':')
 }
 
 // The word that comes after the spaces at a place.

@@ -1,23 +1,28 @@
-use Rattle.std.proofs.Common.{◌≡◌, ℕ, ◌≤◌, eqb, ltb, sym, ap, ◌∙◌, arith}
-use Rattle.std.proofs.lemmas.List.{get_or_past}
+use Rattle.std.proofs.Common.{◌≡◌, ℕ, ◌<◌, ◌≤◌, true, false, eqb, ltb, List, length, get_or, is_some, Some, None, Option, Bor, refl, sym, ap, ◌∙◌, arith}
+use Rattle.std.specs.Option.{IfSome, option_eq}
+use Rattle.std.proofs.lemmas.List.{get_or_past, get_or_default}
 use Rattle.std.proofs.lemmas.Bool.Decides.{nat_tests}
 use Rattle.forms.specs.Bytes.{space}
 use Rattle.property.specs.Words.{first_byte}
 use Rattle.property.proofs.Texts.{past_passed, first_drop}
 use Rattle.property.proofs.words.colon_next.Goals as goal
 
-beyond : (q n g : ℕ) → n ≤ q → g ≡ 0 → ltb q n ≡ eqb g 58
-beyond q n g h e = grind (arith, nat_tests)
+past_end : (q n : ℕ) → false ≡ ltb q n → n ≤ q
+past_end q n e = grind (arith, nat_tests)
 
-pub returns-then-end-text : goal.returns-then-end-text
-returns-then-end-text c =
+before_end : (q n : ℕ) → true ≡ ltb q n → q < n
+before_end q n e = grind (arith, nat_tests)
+
+-- Whether the byte at a place is the one sought.
+by_place : (t : List ℕ) (q : ℕ) (o : Option (Bor ℕ)) (b : Bor ℕ) → is_some o ≡ ltb q (length t) → IfSome o (λ x. x.now ≡ get_or t q x.now) → (b.now ≡ 58)
+    → option_eq (λ (x y : Bor ℕ). eqb x.now y.now) o (Some b) ≡ eqb (get_or t q 0) 58
+by_place t q None b h e z = ap (λ (n : ℕ). eqb n 58) (sym (get_or_past t q 0 (past_end q (length t) h)))
+by_place t q (Some x) b h e z = ap (λ (n : ℕ). eqb n b.now) (e ∙ get_or_default t q x.now 0 (before_end q (length t) h)) ∙ ap (eqb (get_or t q 0)) z
+
+pub returns : goal.returns
+returns c =
     let t = c.args.text.now in
     let q = c.skip-end.result in
-    sym (ap (λ (n : ℕ). eqb n 58) (ap first_byte (past_passed space t c.args.at q c.skip-end.ensures) ∙ first_drop t q))
-
-pub returns-else-end-text : goal.returns-else-end-text
-returns-else-end-text c =
-    let t = c.args.text.now in
-    let q = c.skip-end.result in
-    beyond _ _ _ c.if-end-text.false
-    (ap first_byte (past_passed space t c.args.at q c.skip-end.ensures) ∙ (first_drop t q ∙ get_or_past t q 0 c.if-end-text.false))
+    c.eq.ensures
+    ∙ (by_place t q c.get.result _ c.get.ensures.lookup.0 c.get.ensures.lookup.1 refl
+    ∙ sym (ap (λ (n : ℕ). eqb n 58) (ap first_byte (past_passed space t c.args.at q c.skip-end.ensures) ∙ first_drop t q)))

@@ -11,13 +11,13 @@ returns-then-tight c =
     let f = c.args.from in
     subst (λ (b : Bool). Lexed b t f (f + 1)) (sym (sym c.tight.ensures ∙ c.if-tight.true)) (lexed_byte t f c.requires.within)
 
-pub returns-then-is_letter : goal.returns-then-is_letter
-returns-then-is_letter c =
+pub returns-then-is_ascii_alphabetic : goal.returns-then-is_ascii_alphabetic
+returns-then-is_ascii_alphabetic c =
     let t = c.args.self.now.text.now in
     let f = c.args.from in
     let q = c.skip.result in
     subst (λ (b : Bool). Lexed b t f q) (sym (sym c.tight.ensures ∙ c.if-tight.false))
-    (lexed_word t f q (passed_in wordy t f q (let w = c.requires.within in omega arith) c.skip.ensures) c.requires.within (sym c.is_letter.ensures ∙ c.if-is_letter.true))
+    (lexed_word t f q (passed_in wordy t f q (let w = c.requires.within in omega arith) c.skip.ensures) c.requires.within (sym c.is_ascii_alphabetic.ensures.value ∙ c.if-is_ascii_alphabetic.true))
 
 pub returns-then-not-has : goal.returns-then-not-has
 returns-then-not-has c =
@@ -25,7 +25,7 @@ returns-then-not-has c =
     let f = c.args.from in
     subst (λ (b : Bool). Lexed b t f (f + 1)) (sym (sym c.tight.ensures ∙ c.if-tight.false))
     (lexed_mark t f c.requires.within (c.requires.plain (sym c.tight.ensures ∙ c.if-tight.false))
-    (wordless (get_or t f 0) (sym c.is_letter.ensures ∙ c.if-is_letter.false) (sym c.has.ensures ∙ c.if-not-has.true)))
+    (wordless (get_or t f 0) (sym c.is_ascii_alphabetic.ensures.value ∙ c.if-is_ascii_alphabetic.false) (sym c.has.ensures ∙ c.if-not-has.true)))
 
 pub returns-then-padded : goal.returns-then-padded
 returns-then-padded c =
