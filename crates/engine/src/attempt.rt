@@ -81,7 +81,7 @@ pub(crate) fn attempt_statement<K: Kind>(
     ensures { (es : List Happening) → Seen K.Kind.class scene.now.events.now es
         → told result (map K.Kind.class registers.new) ≡ fares (map matcher matchers.now) (map K.Kind.class registers.old) (drop from es) }
 {
-    // Kept an index: with `events.get(from + j)` the sum's bound stays open (`overflow_add-from`), since nothing tells there how long the slice may be.
+    // Kept an index: with `let Some(event) = events.get(from + j) else ..` it is not proved that the sum fits its type (`overflow_add-from`).
     for (j, matcher) in matchers.iter().enumerate() {
         let i = from + j;
         if i >= scene.events.len() {

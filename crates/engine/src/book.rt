@@ -76,7 +76,7 @@ impl Book {
         requires { (0 < entry → entry < self.now.used) × (length (steps_to self.now.entries.items entry) ≤ length page.old) }
         ensures { page.new ≡ steps_to self.now.entries.items entry ++ drop (length (steps_to self.now.entries.items entry)) page.old }
     {
-        // Kept a counted walk, as in `depth`: of `successors` neither its end nor the bound of its reads in the book is shown.
+        // Kept a counted walk: each entry leads to the next as in `depth`, where `successors` leaves two goals open.
         let mut at = entry;
         let mut left = self.depth(entry);
         while at != 0 {
