@@ -1,15 +1,22 @@
 -- Patterns against places, one by one.
-use Rattle.std.proofs.Common.{◌≡◌, ℕ, ◌+◌, ◌<◌, ◌≤◌, Bool, true, false, ◌&&◌, eqb, List, [], ◌∷◌, map, length, get_or, drop, Decides, sym, ap, ◌∙◌, subst, add-one}
-use Rattle.std.proofs.lemmas.List.{get_or-map, drop_more, length-map, drop_all}
+use Rattle.std.proofs.Common.{◌≡◌, ℕ, ◌+◌, ◌<◌, Bool, true, false, ◌&&◌, eqb, List, [], ◌∷◌, map, length, get_or, drop, vec_items, Decides, sym, ap, ◌∙◌, subst, add-one}
+use Rattle.std.proofs.lemmas.List.{get_or-map, drop_more, length-map}
 use Rattle.topl.specs.Lists.{Class, nothing}
-use Rattle.std.proofs.lemmas.Bool.{and_right, and_from, eq-eqb}
+use Rattle.std.proofs.lemmas.Bool.{and_right}
 use Rattle.topl.specs.Table.{at, Event, places as places', event_of}
-use Rattle.topl.specs.Runs.{Registers, fits, written, fits_all, written_all, meets, writes}
+use Rattle.topl.specs.Runs.{Registers, fits, written, fits_all, written_all, meets}
 use Rattle.engine.specs.declared.table.Pattern.{Pattern}
 use Rattle.engine.specs.declared.table.Pattern.TheVariants.{Any}
+use Rattle.engine.specs.declared.table.Matcher.{Matcher}
+use Rattle.engine.specs.declared.table.Matcher.TheVariants.{Any as AnyEvent, Event as Event'}
 use Rattle.topl.specs.Lists.{same_class}
 use Rattle.topl.proofs.Basics.{same_tests, bool_same}
 use Rattle.engine.specs.Views.{pattern, Shown}
+
+-- the patterns of a matcher
+abbrev pub patterns_of : Matcher → List Pattern
+patterns_of AnyEvent = []
+patterns_of (Event' u) = vec_items u.patterns
 
 -- the class of a value that was read
 pub class_read : {V : Type 0} (class : V → Class) (xs : List V) (r : ℕ) (x : V) → r < length xs → x ≡ get_or xs r x → class x ≡ at (map class xs) r
@@ -26,9 +33,6 @@ module _ (ps : List Pattern) (j : ℕ) (l : j < length ps) where
 
   pub writes_more : (s : Registers) (vs : List Class) → written_all s vs j (drop j (map pattern ps)) ≡ written_all (written s (at vs j) (pattern (get_or ps j Any))) vs (j + 1) (drop (j + 1) (map pattern ps))
   writes_more s vs = ap (written_all s vs j) patterns_more ∙ rw add-one
-
-pub patterns_all : (ps : List Pattern) (j : ℕ) → length ps ≤ j → drop j (map pattern ps) ≡ []
-patterns_all ps j l = drop_all j (map pattern ps) (simp length-map l)
 
 module _ {V : Type 0} (class : V → Class) (registers places : List V) (ps : List Pattern) where
   abbrev pub FitsFrom : ℕ → Type 0
@@ -49,23 +53,12 @@ module _ {V : Type 0} (class : V → Class) (registers places : List V) (ps : Li
         let a : fits_all (map class registers) (places' e) 0 (map pattern ps) ≡ false = ap (λ z. fits_all (map class registers) z 0 (map pattern ps)) (sym S.1) ∙ h in
         sym (and_right (eqb wanted e.id) (fits_all (map class registers) (places' e) 0 (map pattern ps)) a)
 
-    pub meets_all : (j : ℕ) → length ps ≤ j → FitsFrom j → true ≡ meets (map class registers) e (event_of wanted (map pattern ps))
-    meets_all j l inv =
-        let a : fits_all (map class registers) (places' e) 0 (map pattern ps) ≡ true =
-        ap (λ z. fits_all (map class registers) z 0 (map pattern ps)) (sym S.1) ∙ (inv ∙ ap (fits_all (map class registers) (map class places) j) (patterns_all ps j l)) in
-        sym (and_from (eqb wanted e.id) (fits_all (map class registers) (places' e) 0 (map pattern ps)) (eq-eqb wanted e.id (w ∙ S.0)) a)
-
   -- the writes of one pattern more; s was there at first
   pub write_step : (s : Registers) (j : ℕ) (x : V) (after : List V) → j < length ps → j < length places → x ≡ get_or places j x → map class after ≡ written (map class registers) (class x) (pattern (get_or ps j Any)) →
       s ≡ written_all (map class registers) (map class places) j (drop j (map pattern ps)) → s ≡ written_all (map class after) (map class places) (j + 1) (drop (j + 1) (map pattern ps))
   write_step s j x after l l' is e inv =
       let vs : List Class = map class places in
       inv ∙ (writes_more ps j l (map class registers) vs ∙ ap (λ z. written_all z vs (j + 1) (drop (j + 1) (map pattern ps))) (ap (λ z. written (map class registers) z (pattern (get_or ps j Any))) (sym (class_read class places j x l' is)) ∙ sym e))
-
-  pub write_done : (first : Registers) (id : ℕ) (e : Event) (i : ℕ) → Shown class id places e → (j : ℕ) → length ps ≤ j →
-      written_all first (map class places) 0 (map pattern ps) ≡ written_all (map class registers) (map class places) j (drop j (map pattern ps)) → map class registers ≡ writes first e (event_of i (map pattern ps))
-  write_done first id e i S j l inv =
-      sym (ap (λ z. written_all first z 0 (map pattern ps)) (sym S.1) ∙ (inv ∙ ap (written_all (map class registers) (map class places) j) (patterns_all ps j l)))
 
 -- what a kind answers of two values is whether their classes are equal
 pub same_is : (a b : Class) (r : Bool) → Decides r (a ≡ b) → r ≡ same_class a b

@@ -11,4 +11,4 @@ pub mod Judging
 pub mod Windows
 pub mod Opens
 pub mod Starts
-pub mod Advances
+pub mod Following

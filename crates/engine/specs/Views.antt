@@ -31,6 +31,7 @@ over source target ms = record { source = source; target = target; head = slice_
 abbrev pub statement : Statement → T.Statement
 statement t = over t.source t.target (vec_items t.events)
 
+-- a numbered statement without its number
 abbrev pub stated : Numbered → T.Statement
 stated n = over n.source n.target n.events.now
 

@@ -10,8 +10,8 @@ use crate::table::{Matcher, Outcome, Pattern};
 use kinds::kind::Kind;
 
 // Does a value fit a pattern?
-fn fits_pattern<K: Kind>(registers: &[K::Value], v: K::Value, p: Pattern) -> bool
-    requires { (length registers.now ≡ 8) × Within p }
+fn fits_pattern<K: Kind>(registers: &[K::Value; 8], v: K::Value, p: Pattern) -> bool
+    requires { Within p }
     ensures { result ≡ fits (map K.Kind.class registers.now) (K.Kind.class v) (pattern p) }
 {
     match p {
@@ -23,8 +23,13 @@ fn fits_pattern<K: Kind>(registers: &[K::Value], v: K::Value, p: Pattern) -> boo
 }
 
 // Does an event, by its id and its six places, meet a matcher? All reads see the registers from before its writes.
-fn meets_matcher<K: Kind>(registers: &[K::Value], id: u32, places: &[K::Value], m: &Matcher) -> bool
-    requires { (length registers.now ≡ 8) × (length places.now ≡ 6) × Inside m.now }
+fn meets_matcher<K: Kind>(
+    registers: &[K::Value; 8],
+    id: u32,
+    places: &[K::Value],
+    m: &Matcher,
+) -> bool
+    requires { (length places.now ≡ 6) × Inside m.now }
     ensures { (e : Happening) → Shown K.Kind.class id places.now e → result ≡ meets (map K.Kind.class registers.now) e (matcher m.now) }
 {
     match m {
@@ -33,8 +38,8 @@ fn meets_matcher<K: Kind>(registers: &[K::Value], id: u32, places: &[K::Value], 
             if guard.id != id {
                 return false;
             }
-            for (j, p) in guard.patterns.iter().enumerate() {
-                if !fits_pattern::<K>(registers, places[j], *p) {
+            for (p, v) in guard.patterns.iter().zip(places) {
+                if !fits_pattern::<K>(registers, *v, *p) {
                     return false;
                 }
             }
@@ -44,8 +49,8 @@ fn meets_matcher<K: Kind>(registers: &[K::Value], id: u32, places: &[K::Value], 
 }
 
 // Writes a value where a pattern says so.
-fn write_pattern<K: Kind>(registers: &mut [K::Value], v: K::Value, p: Pattern)
-    requires { (length registers.old ≡ 8) × Within p }
+fn write_pattern<K: Kind>(registers: &mut [K::Value; 8], v: K::Value, p: Pattern)
+    requires { Within p }
     ensures { map K.Kind.class registers.new ≡ written (map K.Kind.class registers.old) (K.Kind.class v) (pattern p) }
 {
     if let Pattern::Write(r) = p {
@@ -54,13 +59,13 @@ fn write_pattern<K: Kind>(registers: &mut [K::Value], v: K::Value, p: Pattern)
 }
 
 // Writes what a matcher's patterns write.
-fn write_matcher<K: Kind>(registers: &mut [K::Value], places: &[K::Value], m: &Matcher)
-    requires { (length registers.old ≡ 8) × (length places.now ≡ 6) × Inside m.now }
+fn write_matcher<K: Kind>(registers: &mut [K::Value; 8], places: &[K::Value], m: &Matcher)
+    requires { (length places.now ≡ 6) × Inside m.now }
     ensures { (id : ℕ) (e : Happening) → Shown K.Kind.class id places.now e → map K.Kind.class registers.new ≡ writes (map K.Kind.class registers.old) e (matcher m.now) }
 {
     if let Matcher::Event(guard) = m {
-        for (j, p) in guard.patterns.iter().enumerate() {
-            write_pattern::<K>(registers, places[j], *p);
+        for (p, v) in guard.patterns.iter().zip(places) {
+            write_pattern::<K>(registers, *v, *p);
         }
     }
 }
@@ -70,12 +75,13 @@ pub(crate) fn attempt_statement<K: Kind>(
     scene: &Scene<'_, K::Value>,
     matchers: &[Matcher],
     from: usize,
-    registers: &mut [K::Value],
+    registers: &mut [K::Value; 8],
 ) -> Outcome
-    requires { (every inside matchers.now ≡ true) × (from ≤ length scene.now.events.now) × (length registers.old ≡ 8) }
+    requires { (every inside matchers.now ≡ true) × (from ≤ length scene.now.events.now) }
     ensures { (es : List Happening) → Seen K.Kind.class scene.now.events.now es
         → told result (map K.Kind.class registers.new) ≡ fares (map matcher matchers.now) (map K.Kind.class registers.old) (drop from es) }
 {
+    // Kept an index: with `let Some(event) = events.get(from + j) else ..` it is not proved that the sum fits its type (`overflow_add-from`).
     for (j, matcher) in matchers.iter().enumerate() {
         let i = from + j;
         if i >= scene.events.len() {

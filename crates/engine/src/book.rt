@@ -8,6 +8,7 @@ use crate::entry::Entry;
 const MOST_ENTRIES: usize = 16_384;
 
 // The first `used` entries count. Entry 0 is the start; every other comes after its parent.
+// Kept a count beside entries that name their parents by number: the book is handed over, and nothing is allocated afterwards.
 #[derive(Drop)]
 pub struct Book {
     pub(crate) entries: Vec<Entry>,
@@ -41,6 +42,7 @@ impl Book {
     }
 
     // One entry more, if there is room: its number; else its parent's.
+    // Kept a number in both cases: its one caller needs one for the front, and the deciding rule refuses the position where the book is full.
     pub(crate) fn enter(&mut self, from: Entry) -> u16
         requires { from.parent < self.old.used }
         ensures { Enters self.old.entries.items self.old.used from self.new.entries.items self.new.used result }
@@ -59,7 +61,7 @@ impl Book {
         requires { 0 < entry → entry < self.now.used }
         ensures { result ≡ length (steps_to self.now.entries.items entry) }
     {
-        // Kept a counted walk: each entry names its parent, and no iterator goes that way.
+        // Kept a counted walk: with `successors`, `take_while` and `count` the goals `count-requires-clause-can` and `-finite` stay open.
         let mut at = entry;
         let mut count = 0;
         while at != 0 {
@@ -74,7 +76,7 @@ impl Book {
         requires { (0 < entry → entry < self.now.used) × (length (steps_to self.now.entries.items entry) ≤ length page.old) }
         ensures { page.new ≡ steps_to self.now.entries.items entry ++ drop (length (steps_to self.now.entries.items entry)) page.old }
     {
-        // Kept a counted walk: the steps come from the last to the first, each named by the entry after it.
+        // Kept a counted walk: each entry leads to the next as in `depth`, where `successors` leaves two goals open.
         let mut at = entry;
         let mut left = self.depth(entry);
         while at != 0 {

@@ -27,6 +27,12 @@ const START: u8 = 0;
 // The state that no run may reach.
 const ERROR: u8 = 1;
 
+// The number of a skip.
+const SKIP: u8 = 0;
+
+// The number of the implied statement.
+const IMPLIED: u8 = 65;
+
 // A written statement with its number: the one at place i has i + 1.
 fn written_at(i: usize, t: &Statement) -> Numbered<'_>
     requires { i < 64 }
@@ -42,14 +48,15 @@ fn written_at(i: usize, t: &Statement) -> Numbered<'_>
     }
 }
 
-// The statement start -> start: *, numbered 65, by its matcher.
+// The statement start -> start: *, by its matcher.
+// Kept a matcher that is handed in: `unsupported-static: in a constant, a borrow of a value that holds a struct with a ghost field ..`.
 fn implied_by(any: &[Matcher; 1]) -> Numbered<'_>
     ensures number { result.number ≡ 65 }
     ensures are { result.events.now ≡ any.now }
     ensures stands { any.now ≡ Any ∷ [] → stated result ≡ implied }
 {
     Numbered {
-        number: 65,
+        number: IMPLIED,
         source: START,
         target: START,
         events: any,
@@ -189,7 +196,7 @@ fn step_skip<K: Kind>(
     }
     let from = Entry {
         parent: at.entry,
-        step: 0,
+        step: SKIP,
     };
     land::<K>(grid, way.slot, from, at.state, held)
 }

@@ -5,7 +5,7 @@ ghost use Rattle.engine.specs.Fronts.{Added, Bare, Cleared, states_at};
 use crate::entry::Entry;
 
 // Sixty-four places for each of five positions, of which the first `counts` are in use; whether more configurations came than may be.
-// Kept three arrays in step: the watch allocates nothing once it is made, and a row's states are searched as one slice.
+// Kept two arrays in step: a row's states are searched as one slice, and the watch allocates nothing once it is made.
 // Kept a flag for the spill: a run to `error` is still sought after it, and decides before it.
 #[derive(Clone, Copy)]
 pub struct Front {
@@ -39,6 +39,7 @@ pub struct Mark {
 }
 
 // What a position is once it is filled; where `error` is reached, by which step from which entry.
+// Kept one enum: a Result would need a second one for its two reasons, and its reader still tells three answers apart.
 #[derive(Clone, Copy)]
 pub enum Filling {
     Broken(Entry),
@@ -47,6 +48,7 @@ pub enum Filling {
 }
 
 // What the deciding rule comes to. Where the watch breaks: at which position, and by which step from which entry.
+// Kept an enum of answers, which `judge` hands on by hand: definitions give what each of them means.
 #[derive(Clone, Copy)]
 pub enum Ruling {
     Breaks(usize, Entry),

@@ -5,6 +5,7 @@ use crate::book::Book;
 use crate::front::Front;
 
 // The board has the registers of the configurations whose states and entries stand on the front; a position may have `cap` of them.
+// Kept a board that is cut by arithmetic: its memory is handed over, and nothing is allocated afterwards.
 #[derive(Drop)]
 pub struct Grid<V> {
     pub(crate) front: Front,

@@ -3,7 +3,7 @@ ghost use Rattle.std.specs.Prelude.{◌≡◌};
 ghost use Rattle.topl.specs.Runs.{calm, hangs};
 ghost use Rattle.engine.specs.Modes.{mode_of};
 
-// A list of events goes on, or has ended.
+// `Settled`: more events may come. `Closed`: none will.
 #[derive(Clone, Copy)]
 pub enum Mode {
     Settled,
@@ -11,7 +11,7 @@ pub enum Mode {
 }
 
 impl Mode {
-    // Lets a statement that hangs a skip go on?
+    // Does a statement that hangs let a skip go on?
     pub(crate) fn lets_hang(self) -> bool
         ensures { result ≡ calm (mode_of self) hangs }
     {

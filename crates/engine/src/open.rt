@@ -18,8 +18,8 @@ fn start_registers<K: Kind>(constants: &[u8], values: &[K::Value]) -> [K::Value;
     ensures eight { length result ≡ 8 }
 {
     let mut registers = [K::nothing(); 8];
-    for (j, r) in constants.iter().enumerate() {
-        registers[*r as usize] = values[j];
+    for (r, v) in constants.iter().zip(values) {
+        registers[*r as usize] = *v;
     }
     registers
 }

@@ -20,6 +20,7 @@ pub(crate) fn find<K: Kind>(
     requires { (8 * length states.now ≤ length values.now) × (length registers.now ≡ 8) }
     ensures { result ≡ holds alikeᶜ (row K.Kind.class states.now values.now) (configuration K.Kind.class state registers.now) }
 {
+    // Kept a nested search over stored configurations and registers, left by a label: a fixed form of the project.
     'configurations: for (i, s) in states.iter().enumerate() {
         if *s != state {
             continue 'configurations;

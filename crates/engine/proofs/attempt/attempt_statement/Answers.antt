@@ -14,7 +14,7 @@ returns-then-i-scene g c =
     (matcher c.index-matchers-j.result) (matchers_more ms c.loop-j.j c.index-matchers-j.result c.loop-j-test.true c.index-matchers-j.is) (omega arith)
 
 pub meets_matcher-requires : goal.meets_matcher-requires
-meets_matcher-requires g c = (search rules, search rules, inside_in c.args.matchers.now c.loop-j.j c.index-matchers-j.result c.requires.0 c.loop-j-test.true c.index-matchers-j.is)
+meets_matcher-requires g c = (search rules, (search rules, inside_in c.args.matchers.now c.loop-j.j c.index-matchers-j.result c.requires.0 c.loop-j-test.true c.index-matchers-j.is))
 
 pub returns-then-not-meets_matcher : goal.returns-then-not-meets_matcher
 returns-then-not-meets_matcher g c =
@@ -30,7 +30,7 @@ returns-then-not-meets_matcher g c =
     (sym c.if-not-meets_matcher.true ∙ c.meets_matcher.ensures (get_or es i no_event) shown)
 
 pub write_matcher-requires : goal.write_matcher-requires
-write_matcher-requires g c = (search rules, search rules, inside_in c.args.matchers.now c.loop-j.j c.index-matchers-j.result c.requires.0 c.loop-j-test.true c.index-matchers-j.is)
+write_matcher-requires g c = (search rules, (search rules, inside_in c.args.matchers.now c.loop-j.j c.index-matchers-j.result c.requires.0 c.loop-j-test.true c.index-matchers-j.is))
 
 pub loop-j-preserved : goal.loop-j-preserved
 loop-j-preserved g c =

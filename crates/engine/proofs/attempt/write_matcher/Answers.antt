@@ -1,21 +1,23 @@
-use Rattle.std.proofs.Common.{◌≡◌, ℕ, ◌<◌, map, length, ap, subst, arith}
-use Rattle.topl.specs.Table.{Event, event_of}
-use Rattle.topl.specs.Runs.{writes}
-use Rattle.engine.specs.Views.{pattern, Inside, Shown}
-use Rattle.engine.proofs.Fits.{write_step, write_done}
+use Rattle.std.proofs.Common.{◌≡◌, [], ◌∷◌, map, length, drop, vec_items, sym, ap, ◌∙◌, subst, rules, length-append}
+use Rattle.std.proofs.lemmas.Slice.Zip.{zip_turn}
+use Rattle.std.specs.Iterator.Adapters.{zip_first}
+use Rattle.std.specs.Slice.Iter.{iter_rest}
+use Rattle.topl.specs.Runs.{written, written_all}
+use Rattle.engine.specs.declared.table.Pattern.TheVariants.{Any}
+use Rattle.engine.specs.Views.{pattern}
+use Rattle.engine.proofs.Fits.{patterns_of, write_step}
 use Rattle.engine.proofs.attempt.write_matcher.Goals as goal
 
-pub loop-j-preserved : goal.loop-j-preserved
-loop-j-preserved g c =
-    let i = subst Inside c.in-Event.is c.requires.2 in
-    let n = ap length c.deref-p-items.ensures.value in
-    let six = i.0 in
-    let l' : c.loop-j.j < length c.args.places.now = omega (arith, c.loop-j-test.true, c.requires.1) in
-    write_step g.K.Kind.class c.loop-j.registers c.args.places.now c.deref-p-items.result.now _ c.loop-j.j c.index-places-j.result c.write_pattern.new.registers c.loop-j-test.true l' c.index-places-j.is c.write_pattern.ensures c.loop-j.invariant
-
-pub returns-after-loop-j : goal.returns-after-loop-j
-returns-after-loop-j g c =
+pub loop-p-preserved : goal.loop-p-preserved
+loop-p-preserved g c u e =
     let class = g.K.Kind.class in
-    simp c.in-Event.is
-    (subst (λ z. (id : ℕ) (e : Event) → Shown class id c.args.places.now e → map class c.loop-j.registers ≡ writes (map class c.args.registers.now) e (event_of c.in-Event.guard.id (map pattern z))) c.deref-p-items.ensures.value
-    (λ id e S. write_done class c.loop-j.registers c.args.places.now c.deref-p-items.result.now (map class c.args.registers.now) id e c.in-Event.guard.id S c.loop-j.j c.loop-j-test.false c.loop-j.invariant))
+    let places = c.args.places.now in
+    let ps = vec_items u.patterns in
+    let j = length c.loop-p.yielded in
+    let v = c.in-Some.v.now in
+    let q : c.deref.result.now ≡ ps = c.deref.ensures.value ∙ ap patterns_of (sym c.in-Event.is ∙ e) in
+    let first : iter_rest (zip_first c.into_iter-p-iterator.result) ≡ c.deref.result.now = search rules in
+    let t = zip_turn ps c.args.places.now c.loop-p.yielded c.into_iter-p-iterator.result c.loop-p.p-iterator c.next.new.self c.next.result (first ∙ q) (search rules) c.loop-p.yielded_by (c.in-Some.p, c.in-Some.v) c.in-Some.is c.next.ensures.steps in
+    let rs = map class c.args.registers.now in
+    subst (λ k. written_all rs (map class places) 0 (map pattern ps) ≡ written_all (map class c.write_pattern.new.registers) (map class places) k (drop k (map pattern ps))) (sym (length-append c.loop-p.yielded ((c.in-Some.p, c.in-Some.v) ∷ [])))
+    (write_step class c.loop-p.registers places ps (written_all rs (map class places) 0 (map pattern ps)) j v c.write_pattern.new.registers t.0 t.1 (t.3 v) (c.write_pattern.ensures ∙ ap (λ z. written (map class c.loop-p.registers) (class v) (pattern z)) (t.2 Any)) (c.loop-p.invariant u e))

@@ -89,4 +89,4 @@ returns-in-Hangs g c =
 pub attempt_statement-requires : goal.attempt_statement-requires
 attempt_statement-requires g c =
     let t = c.args.t.now in
-    (insides t.source t.target t.events.now c.requires.3, c.requires.0, search rules)
+    (search rules, (insides t.source t.target t.events.now c.requires.3, c.requires.0))

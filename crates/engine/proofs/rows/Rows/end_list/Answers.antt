@@ -8,7 +8,7 @@ use Rattle.engine.specs.Judging.{Start}
 use Rattle.engine.specs.Windows.{Remembers}
 use Rattle.engine.proofs.Properties.{lawful}
 use Rattle.engine.proofs.Starts.{start_close}
-use Rattle.engine.proofs.Advances.{seen_count}
+use Rattle.engine.proofs.Following.{seen_count}
 use Rattle.engine.proofs.rows.Rows.end_list.Goals as goal
 
 pub returns-clause-rules : goal.returns-clause-rules

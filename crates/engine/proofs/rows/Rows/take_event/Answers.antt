@@ -10,7 +10,7 @@ use Rattle.engine.specs.Judging.{Start, Decided}
 use Rattle.engine.specs.Windows.{Remembers}
 use Rattle.engine.proofs.Properties.{lawful}
 use Rattle.engine.proofs.Starts.{cleared, start_feed}
-use Rattle.engine.proofs.Advances.{remembers_more, seen_count, follows_on}
+use Rattle.engine.proofs.Following.{remembers_more, seen_count, follows_on}
 use Rattle.engine.proofs.rows.Rows.take_event.Goals as goal
 
 pub returns-clause-rules : goal.returns-clause-rules
