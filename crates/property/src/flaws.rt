@@ -46,6 +46,7 @@ fn arity_flaw(w: &[u8]) -> Option<TextReason>
     too_much(decimal(w).is_none_or(|n| n > 5))
 }
 
+// Tests that ask the draft stand before `or_else`: asked inside of its closure, the goals `returns` stay open.
 impl Reading<'_> {
     // Whether a state would be the seventeenth.
     fn crowded(&self, w: &[u8]) -> bool
