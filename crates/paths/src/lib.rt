@@ -180,7 +180,7 @@ fn lesser(a: Option<usize>, b: Option<usize>) -> Option<usize>
 pub(crate) fn unwritten_read(statements: &[Statement], registers: &[Register]) -> Option<usize>
     ensures { FirstOf statements.now registers.now (length registers.now) result }
 {
-    // Kept a loop: a chain needs a filter over pairs and a second closure, and is no plainer.
+    // Kept a loop: of `enumerate().filter_map(..).min()` the goal `returns` stays open, since FirstOpen tells a read by no equation.
     let mut best: Option<usize> = None;
     for (x, g) in registers.iter().enumerate() {
         if let Register::Variable(_) = g {

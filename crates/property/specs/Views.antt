@@ -4,6 +4,7 @@ use Rattle.kinds.specs.Refusals.{text_number}
 use Rattle.kinds.specs.declared.text_reason.TextReason.{TextReason}
 use Rattle.property.specs.States.{Declared, Key, key, Property, State}
 use Rattle.property.specs.declared.draft.Draft.{Draft}
+use Rattle.property.specs.declared.draft.Reading.{Reading}
 use Rattle.property.specs.declared.table.Method.{Method}
 use Rattle.property.specs.declared.table.Name.{Name}
 use Rattle.property.specs.declared.table.Register.{Register}
@@ -49,3 +50,7 @@ sofar t d = record {
 
 abbrev pub view : List ℕ → Draft → State
 view t d = record { cursor = d.cursor; word = spelled t d.word; sofar = sofar t d }
+
+-- What a draft with its text holds.
+abbrev pub seen : Reading → State
+seen r = view r.text.now r.draft.now

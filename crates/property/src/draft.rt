@@ -5,7 +5,7 @@ ghost use Rattle.property.specs.Views.{key_of};
 ghost use Rattle.property.specs.States as state;
 ghost use Rattle.property.specs.States.{same_key};
 ghost use Rattle.property.specs.Views.{spelled as spelling};
-ghost use Rattle.property.specs.Views.{view, sofar};
+ghost use Rattle.property.specs.Views.{sofar, seen};
 ghost use Rattle.property.specs.Words as word;
 
 use crate::cursor::*;
@@ -13,7 +13,7 @@ use crate::table::*;
 use crate::words::*;
 
 // The cursor, a name that waits for its use, and the property so far.
-// Kept apart from the text, which each search is passed: the draft is handed on when the text's borrow is over.
+// Kept apart from the text: the draft is handed on when the text's borrow is over.
 #[derive(Drop)]
 pub struct Draft {
     pub cursor: Cursor,
@@ -26,48 +26,71 @@ pub struct Draft {
 }
 
 impl Draft {
-    // The place of a state among those besides `start` and `error`.
-    fn other(&self, text: &[u8], w: &[u8]) -> Option<usize>
-        ensures { result ≡ position (λ n. word.same w.now (spelling text.now n)) self.now.others.items }
+    // Whether a method has the number.
+    pub(crate) fn numbered(&self, number: u32) -> bool
+        ensures { (t : List ℕ) → result ≡ list_any (λ m. nat_eq number m.number) (sofar t self.now).methods }
     {
-        self.others.iter().position(|n| w == spelled(text, *n))
+        self.methods.iter().any(|m| number == m.number)
+    }
+}
+
+// A draft with the text that it reads, for the searches and the faults.
+#[derive(Clone, Copy)]
+pub(crate) struct Reading<'a> {
+    pub(crate) text: &'a [u8],
+    pub(crate) draft: &'a Draft,
+}
+
+impl Reading<'_> {
+    // The place of a state among those besides `start` and `error`.
+    fn other(&self, w: &[u8]) -> Option<usize>
+        ensures { result ≡ position (λ n. word.same w.now (spelling self.now.text.now n)) self.now.draft.now.others.items }
+    {
+        self.draft
+            .others
+            .iter()
+            .position(|n| w == spelled(self.text, *n))
     }
 
     // The method of a name.
-    pub(crate) fn method(&self, text: &[u8], w: &[u8]) -> Option<Method>
-        ensures { result ≡ find (λ m. word.same w.now (spelling text.now m.name)) self.now.methods.items }
+    pub(crate) fn method(&self, w: &[u8]) -> Option<Method>
+        ensures { result ≡ find (λ m. word.same w.now (spelling self.now.text.now m.name)) self.now.draft.now.methods.items }
     {
-        self.methods
+        self.draft
+            .methods
             .iter()
-            .find(|m| w == spelled(text, m.name))
+            .find(|m| w == spelled(self.text, m.name))
             .copied()
     }
 
     // The place of the register of a constant or a variable.
-    pub(crate) fn register(&self, text: &[u8], register: Register) -> Option<usize>
-        ensures { result ≡ position (λ g. same_key (key_of text.now register) (key_of text.now g)) self.now.registers.items }
+    pub(crate) fn register(&self, register: Register) -> Option<usize>
+        ensures { result ≡ position (λ g. same_key (key_of self.now.text.now register) (key_of self.now.text.now g)) self.now.draft.now.registers.items }
     {
-        self.registers.iter().position(|g| register.same(*g, text))
+        self.draft
+            .registers
+            .iter()
+            .position(|g| register.same(*g, self.text))
     }
 
     // Whether a state is not among those besides `start` and `error`.
-    fn lacks(&self, text: &[u8], w: &[u8]) -> bool
-        ensures { let ws = (sofar text.now self.now).others in result ≡ (position_or_len (word.same w.now) ws == length ws) }
+    fn lacks(&self, w: &[u8]) -> bool
+        ensures { let ws = (seen self.now).sofar.others in result ≡ (position_or_len (word.same w.now) ws == length ws) }
     {
-        self.other(text, w).is_none()
+        self.other(w).is_none()
     }
 
     // Whether a state is neither `start` nor `error` and was not written yet.
-    pub(crate) fn fresh_other(&self, text: &[u8], w: &[u8]) -> bool
-        ensures { result ≡ state.fresh_other (sofar text.now self.now).others w.now }
+    pub(crate) fn fresh_other(&self, w: &[u8]) -> bool
+        ensures { result ≡ state.fresh_other (seen self.now).sofar.others w.now }
     {
-        !is_start(w) && !is_error(w) && self.lacks(text, w)
+        !is_start(w) && !is_error(w) && self.lacks(w)
     }
 
     // The number of a state, which is the next one where it was not written yet, and 16 for all past the fifteenth.
     // Kept a number for those past it: the definition state_number gives it, and an Option would be made 16 by its one caller; a text with so many states is refused, though not always here.
-    pub(crate) fn state_number(&self, text: &[u8], w: &[u8]) -> usize
-        ensures { result ≡ state.state_number (sofar text.now self.now).others w.now }
+    pub(crate) fn state_number(&self, w: &[u8]) -> usize
+        ensures { result ≡ state.state_number (seen self.now).sofar.others w.now }
     {
         if is_start(w) {
             return START;
@@ -75,42 +98,35 @@ impl Draft {
         if is_error(w) {
             return ERROR;
         }
-        2 + self.other(text, w).unwrap_or(self.others.len()).min(14)
+        2 + self.other(w).unwrap_or(self.draft.others.len()).min(14)
     }
 
     // Whether a method of the name is declared.
-    pub(crate) fn knows(&self, text: &[u8], w: &[u8]) -> bool
-        ensures { result ≡ nat_lt (state.method_place (sofar text.now self.now) w.now) (length (sofar text.now self.now).methods) }
+    pub(crate) fn knows(&self, w: &[u8]) -> bool
+        ensures { result ≡ nat_lt (state.method_place (seen self.now).sofar w.now) (length (seen self.now).sofar.methods) }
     {
-        self.method(text, w).is_some()
-    }
-
-    // Whether a method has the number.
-    pub(crate) fn numbered(&self, number: u32) -> bool
-        ensures { (t : List ℕ) → result ≡ list_any (λ m. nat_eq number m.number) (sofar t self.now).methods }
-    {
-        self.methods.iter().any(|m| number == m.number)
+        self.method(w).is_some()
     }
 
     // The number of the register of a constant or a variable, which is the next one where it has none.
-    pub(crate) fn register_number(&self, text: &[u8], register: Register) -> usize
-        ensures { result ≡ state.register_of (sofar text.now self.now) (key_of text.now register) }
+    pub(crate) fn register_number(&self, register: Register) -> usize
+        ensures { result ≡ state.register_of (seen self.now).sofar (key_of self.now.text.now register) }
     {
-        self.register(text, register)
-            .unwrap_or(self.registers.len())
+        self.register(register)
+            .unwrap_or(self.draft.registers.len())
     }
 
     // Whether a constant or a variable needs a ninth register.
-    pub(crate) fn ninth(&self, text: &[u8], register: Register) -> bool
-        ensures { result ≡ state.ninth (sofar text.now self.now) (key_of text.now register) }
+    pub(crate) fn ninth(&self, register: Register) -> bool
+        ensures { result ≡ state.ninth (seen self.now).sofar (key_of self.now.text.now register) }
     {
-        self.registers.len() >= 8 && self.register(text, register).is_none()
+        self.draft.registers.len() >= 8 && self.register(register).is_none()
     }
 
     // Whether a line declares a method.
-    pub(crate) fn declares(&self, text: &[u8], w: &[u8]) -> bool
-        ensures { result ≡ state.declares (view text.now self.now) w.now }
+    pub(crate) fn declares(&self, w: &[u8]) -> bool
+        ensures { result ≡ state.declares (seen self.now) w.now }
     {
-        w == b"method".as_slice() && self.statements.is_empty()
+        w == b"method".as_slice() && self.draft.statements.is_empty()
     }
 }

@@ -1,6 +1,5 @@
 // The marks of a property text.
 ghost use Rattle.std.specs.Prelude.{◌≡◌};
-ghost use Rattle.forms.specs.Bytes.{capital, letter, small};
 ghost use Rattle.property.specs.Marks.{Means, in_class};
 
 // What a character of a property text is.

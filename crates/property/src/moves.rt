@@ -33,8 +33,12 @@ impl Draft {
         ensures { IfOk result (λ n. (n ≡ state.state_number (sofar text.now self.old).others (spelling text.now name)) × (view text.now self.new ≡ visit (spelling text.now name) (view text.now self.old))) }
     {
         let w = spelled(text, name);
-        let number = self.state_number(text, w);
-        if self.fresh_other(text, w) {
+        let reading = Reading {
+            text,
+            draft: &*self,
+        };
+        let number = reading.state_number(w);
+        if reading.fresh_other(w) {
             self.others.push(name)?;
         }
         self.cursor = self.cursor.visiting(w);
@@ -45,7 +49,11 @@ impl Draft {
     fn hold(&mut self, text: &[u8], register: Register) -> Result<usize, AllocError>
         ensures { IfOk result (λ n. (n ≡ state.register_of (sofar text.now self.old) (key_of text.now register)) × (view text.now self.new ≡ hold (key_of text.now register) (view text.now self.old))) }
     {
-        if let Some(number) = self.register(text, register) {
+        let reading = Reading {
+            text,
+            draft: &*self,
+        };
+        if let Some(number) = reading.register(register) {
             return Ok(number);
         }
         let number = self.registers.len();
@@ -141,7 +149,11 @@ impl Draft {
     fn fresh(&mut self, text: &[u8], name: Name) -> Result<(), AllocError>
         ensures { OnOk result (view text.now self.new ≡ state.line_moved Line.Fresh (view text.now self.old) (spelling text.now name)) }
     {
-        if self.declares(text, spelled(text, name)) {
+        let reading = Reading {
+            text,
+            draft: &*self,
+        };
+        if reading.declares(spelled(text, name)) {
             self.cursor.spot = Spot::Line(Line::MethodName);
             return Ok(());
         }
@@ -357,7 +369,11 @@ impl Draft {
     fn callee(&mut self, text: &[u8], name: Name)
         ensures { view text.now self.new ≡ state.calling (spelling text.now name) (view text.now self.old) }
     {
-        let method = self.method(text, spelled(text, name));
+        let reading = Reading {
+            text,
+            draft: &*self,
+        };
+        let method = reading.method(spelled(text, name));
         self.cursor = self.cursor.called(method);
     }
 

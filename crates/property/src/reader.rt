@@ -127,7 +127,11 @@ impl Reader<'_> {
         let to = self.end(spot, from)?;
         let name = Name { from, to };
         let found = Found { name, byte };
-        match draft.flaw(self.text, found) {
+        let reading = Reading {
+            text: self.text,
+            draft,
+        };
+        match reading.flaw(found) {
             Some(reason) => Err(Flaw {
                 reason,
                 place: from,

@@ -102,6 +102,7 @@ pub(crate) fn skip(text: &[u8], class: Class, at: usize) -> usize
 }
 
 // The number that digits write, none where it is over 65,535.
+// Kept a loop: of `try_fold` over checked sums the goal `returns` stays open.
 pub(crate) fn decimal(digits: &[u8]) -> Option<u32>
     ensures { result ≡ (if nat_le (value digits.now) 65535 then Some (value digits.now) else None) }
 {

@@ -2,15 +2,15 @@ use Rattle.std.proofs.Common.{◌≡◌, ℕ, ◌≤◌, true, leb, drop, ap, �
 use Rattle.std.proofs.lemmas.Bool.Decides.{nat_tests}
 use Rattle.property.specs.Grammar.{worst, begun_flaws}
 use Rattle.property.specs.Views.{view, spelled}
-use Rattle.property.proofs.draft.Draft.begun_flaw.Goals as goal
+use Rattle.property.proofs.draft.Reading.begun_flaw.Goals as goal
 
 past : (n : ℕ) → 3 ≤ n → true ≡ leb 3 n
 past n h = grind (arith, nat_tests)
 
 pub returns-then-self-ge3 : goal.returns-then-self-ge3
 returns-then-self-ge3 c =
-    let t = c.args.text.now in
-    let p = view t c.args.self.now in
+    let t = c.args.self.now.text.now in
+    let p = view t c.args.self.now.draft.now in
     let r = drop c.args.found.name.to t in
     c.late_flaw.ensures p r
     ∙ (ap (λ w. worst (begun_flaws true p w c.args.found.byte r)) c.spelled.ensures
