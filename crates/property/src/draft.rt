@@ -13,7 +13,7 @@ use crate::table::*;
 use crate::words::*;
 
 // The cursor, a name that waits for its use, and the property so far.
-// Kept apart from the text: the draft is handed on when the text's borrow is over.
+// Kept apart from the text where it changes: a struct that lends it by `&mut` beside the text would have each move say that the text stays as it is.
 #[derive(Drop)]
 pub struct Draft {
     pub cursor: Cursor,
