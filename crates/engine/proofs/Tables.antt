@@ -1,9 +1,11 @@
 -- The statements of a table, one by one.
-use Rattle.std.proofs.Common.{◌≡◌, ℕ, zero, suc, ◌+◌, ◌<◌, List, [], ◌∷◌, map, length, get_or, sym, refl, ap, ◌∙◌, arith}
+use Rattle.std.proofs.Common.{◌≡◌, ℕ, zero, suc, ◌+◌, ◌<◌, Bool, true, false, ◌&&◌, List, [], ◌∷◌, map, length, get_or, sym, refl, ap, ◌∙◌, arith}
 use mathlib.Core.List.Memᴰ
+use Rattle.std.specs.List.{list_all}
 use Rattle.std.proofs.lemmas.List.{get_or-map, length-map}
 use Rattle.topl.specs.Lists.{◌∈◌}
 use Rattle.topl.specs.Table as T
+use Rattle.topl.specs.Runs.{Configuration, World, calms, quiet}
 use Rattle.topl.proofs.Moves as M
 use Rattle.engine.specs.declared.table.Statement.{Statement}
 use Rattle.engine.specs.Views.{statement}
@@ -39,3 +41,20 @@ module _ (P : T.Table) (ts : List Statement) (e : P.statements ≡ map statement
 
   pub numbered_end : (i : ℕ) → i ≡ length ts → get_or (T.numbered P) i (65, T.implied) ≡ (65, T.implied)
   numbered_end i l = M.numbered_end P i (l ∙ sym long)
+
+-- all statements let a skip go on: the written ones, and the implied one
+pub quiet_is : (w : World) (p : ℕ) (c : Configuration) (P : T.Table) (ts : List Statement) → P.statements ≡ map statement ts →
+    (list_all (λ t. calms w p c (0, statement t)) ts && calms w p c (65, T.implied)) ≡ quiet w p c (T.numbered P)
+quiet_is w p c P ts e = go 1 ts ∙ ap (λ z. quiet w p c (T.count_from 1 z)) (sym e)
+  where
+    last : (b : Bool) → b ≡ (b && true)
+    last true = refl
+    last false = refl
+
+    on : (a b d r : Bool) → (b && d) ≡ r → ((a && b) && d) ≡ (a && r)
+    on true b d r h = h
+    on false b d r h = refl
+
+    go : (n : ℕ) (ts : List Statement) → (list_all (λ t. calms w p c (0, statement t)) ts && calms w p c (65, T.implied)) ≡ quiet w p c (T.count_from n (map statement ts))
+    go n [] = last (calms w p c (65, T.implied))
+    go n (t ∷ ts) = on (calms w p c (0, statement t)) (list_all (λ t. calms w p c (0, statement t)) ts) (calms w p c (65, T.implied)) (quiet w p c (T.count_from (suc n) (map statement ts))) (go (suc n) ts)

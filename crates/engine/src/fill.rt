@@ -2,11 +2,11 @@
 ghost use Rattle.std.specs.Prelude.{◌≡◌, ℕ, ◌+◌, ◌-◌, ◌%◌, ◌<◌, ◌≤◌, true, List, [], ◌∷◌, map, length, drop, ◌≢◌};
 ghost use Rattle.topl.specs.Lists.{each, every, ◌∈◌};
 ghost use Rattle.topl.specs.Table.{Event as Happening, Table as TheTable, numbered, implied};
-ghost use Rattle.topl.specs.Runs.{Registers, World, Reach, quiet, calm, fares, lands, skips, moves};
+ghost use Rattle.topl.specs.Runs.{Registers, World, Reach, quiet, calm, calms, fares, lands, skips, moves};
 ghost use Rattle.topl.specs.Rows.{landed, incoming};
 ghost use Rattle.engine.specs.declared.table.Matcher.TheVariants.{Any};
 ghost use Rattle.engine.specs.Modes.{mode_of};
-ghost use Rattle.engine.specs.Views.{matcher, statement, stated, inside, fit, Seen};
+ghost use Rattle.engine.specs.Views.{matcher, statement, stated, inside, fit, sound, Seen};
 ghost use Rattle.engine.specs.Trails.{steps_to, steps_by};
 ghost use Rattle.engine.specs.Fronts.{configuration, row_at};
 ghost use Rattle.engine.specs.Grids.{grid_of};
@@ -120,18 +120,15 @@ fn is_quiet<K: Kind>(
     ensures { (base : ℕ) (P : TheTable) (w : World) → Watched K.Kind.class scene.now base P w
         → result ≡ quiet w (base + from) (configuration K.Kind.class state held.now) (numbered P) }
 {
-    for t in scene.statements {
-        if t.source != state {
-            continue;
-        }
-        if !is_calm::<K>(scene, &t.events, from, held) {
-            return false;
-        }
-    }
-    if state != START {
-        return true;
-    }
-    is_calm::<K>(scene, &[Matcher::Any], from, held)
+    let written = scene.statements.iter().all(
+        |t| -> bool
+            requires { (sound t.now ≡ true) × (from ≤ length scene.now.events.now) }
+            ensures { (base : ℕ) (P : TheTable) (w : World) → Watched K.Kind.class scene.entry.now base P w
+                → (n : ℕ) → result ≡ calms w (base + from) (configuration K.Kind.class state held.entry.now) (n, statement t.now) }
+        { t.source != state || is_calm::<K>(scene, &t.events, from, held) },
+    );
+    written
+        && (state != START || is_calm::<K>(scene, implied_by(&[Matcher::Any]).events, from, held))
 }
 
 // What one statement brings from a configuration to the position at the end of a way.
