@@ -69,9 +69,9 @@ fn land<K: Kind>(
     slot: usize,
     from: Entry,
     state: u8,
-    registers: &[K::Value],
+    registers: &[K::Value; 8],
 ) -> Result<(), Entry>
-    requires { (slot < 5) × (length registers.now ≡ 8) × (from.parent < grid.old.book.used) }
+    requires { (slot < 5) × (from.parent < grid.old.book.used) }
     ensures safe { Safe slot grid.old grid.new result }
     ensures brings { (P : TheTable) (k : Registers) (w : World) (p : ℕ)
         → Reach P k w p (configuration K.Kind.class state registers.now) (steps_by grid.old.book.entries.items from)

@@ -15,9 +15,9 @@ pub(crate) fn find<K: Kind>(
     states: &[u8],
     values: &[K::Value],
     state: u8,
-    registers: &[K::Value],
+    registers: &[K::Value; 8],
 ) -> bool
-    requires { (8 * length states.now ≤ length values.now) × (length registers.now ≡ 8) }
+    requires { 8 * length states.now ≤ length values.now }
     ensures { result ≡ holds alikeᶜ (row K.Kind.class states.now values.now) (configuration K.Kind.class state registers.now) }
 {
     // Kept a nested search over stored configurations and registers, left by a label: a fixed form of the project.
@@ -71,9 +71,9 @@ pub(crate) fn put_configuration<V: Copy>(
     cap: usize,
     slot: usize,
     i: usize,
-    registers: &[V],
+    registers: &[V; 8],
 )
-    requires { (slot < 5) × (cap ≤ 64) × (40 * cap ≤ length rows.old) × (i < cap) × (length registers.now ≡ 8) }
+    requires { (slot < 5) × (cap ≤ 64) × (40 * cap ≤ length rows.old) × (i < cap) }
     ensures { rows.new ≡ stored rows.old (slot * (8 * cap) + 8 * i) registers.now }
 {
     let from = start(cap, slot);
@@ -106,9 +106,9 @@ pub(crate) fn arrive<K: Kind>(
     slot: usize,
     from: Entry,
     state: u8,
-    registers: &[K::Value],
+    registers: &[K::Value; 8],
 ) -> Arrival
-    requires { (slot < 5) × (length registers.now ≡ 8) × (from.parent < grid.old.book.used) }
+    requires { (slot < 5) × (from.parent < grid.old.book.used) }
     ensures arrives { Arrives K.Kind.class grid.old.cap (grid_of grid.old) (grid_of grid.new) slot from (configuration K.Kind.class state registers.now) result }
     ensures cap { grid.new.cap ≡ grid.old.cap }
     ensures board { vec_len grid.new.board ≡ vec_len grid.old.board }

@@ -8,7 +8,7 @@ use Rattle.engine.proofs.fill.land.Goals as goal
 
 pub returns-then-state-eq-ERROR : goal.returns-then-state-eq-ERROR
 returns-then-state-eq-ERROR g c = record {
-  safe = safe_told c.args.slot c.args.grid.now c.args.from c.requires.2;
+  safe = safe_told c.args.slot c.args.grid.now c.args.from c.requires.1;
   brings = λ P k w p r. (
     ap (λ z. z || false) (eq-eqb c.args.state 1 c.if-state-eq-ERROR.true),
     (configuration g.K.Kind.class c.args.state c.args.registers.now, c.if-state-eq-ERROR.true, r),

@@ -1,4 +1,4 @@
-use Rattle.std.proofs.Common.{◌+◌, ◌*◌, ◌<◌, take, drop, vec_items, sym, refl, ap, ◌∙◌, subst, arith}
+use Rattle.std.proofs.Common.{◌≡◌, ◌+◌, ◌*◌, ◌<◌, length, take, drop, vec_items, sym, refl, ap, ◌∙◌, subst, arith, rules}
 use Rattle.topl.specs.Lists.{holds}
 use Rattle.topl.specs.Runs.{alikeᶜ}
 use Rattle.engine.specs.Fronts.{configuration, count_at, grid, Room, Comes}
@@ -11,7 +11,7 @@ find-requires g c =
     let b = c.args.grid.now.room.3 c.args.slot in
     let n = c.states_of.ensures.long in
     let m = c.part_of.ensures.long in
-    (omega arith, c.requires.1)
+    (search rules, omega arith)
 
 pub returns-then-find : goal.returns-then-find
 returns-then-find g c =
@@ -33,6 +33,7 @@ returns-then-count-cap g c =
 
 pub returns : goal.returns
 returns g c =
+    let eight : length c.args.registers.now ≡ 8 = search rules in
     let class = g.K.Kind.class in
     let s = c.args.grid.now in
     let slot = c.args.slot in
@@ -42,17 +43,18 @@ returns g c =
     let rs = c.args.registers.now in
     let e = row_part class s.cap slot G c.part_of.result.now c.states_of.result.now c.requires.0 s.room c.states_of.ensures.are (c.part_of.ensures.is ∙ ap (λ z. take (8 * s.cap) (drop (slot * (8 * s.cap)) z)) c.deref.ensures.value) in
     let l : count_at s.front slot < s.cap = c.if-count-cap.false in
-    let f = fits_in class s.cap slot c.args.state c.enter-entry.result G H rs (vec_items b.entries) b.used c.requires.0 s.room l c.requires.1 c.add.ensures in
+    let f = fits_in class s.cap slot c.args.state c.enter-entry.result G H rs (vec_items b.entries) b.used c.requires.0 s.room l eight c.add.ensures in
     let u = ap (λ z. holds alikeᶜ z (configuration class c.args.state rs)) (sym e) ∙ (sym c.find.ensures ∙ c.if-find.false) in record {
       arrives = subst (λ z. Comes class s.cap G (grid H z (vec_items b.entries) b.used) slot c.args.from (configuration class c.args.state rs))
-          (sym (board_put s.board c.deref_mut.result.now c.put_configuration.new.rows rs (slot * (8 * s.cap) + 8 * count_at s.front slot) c.deref_mut.ensures.value c.put_configuration.ensures f c.requires.1))
-          (comes class s.cap slot c.args.state c.enter-entry.result G H rs (vec_items b.entries) b.used c.requires.0 s.room l c.requires.1 c.add.ensures c.args.from c.enter-entry.ensures u);
+          (sym (board_put s.board c.deref_mut.result.now c.put_configuration.new.rows rs (slot * (8 * s.cap) + 8 * count_at s.front slot) c.deref_mut.ensures.value c.put_configuration.ensures f eight))
+          (comes class s.cap slot c.args.state c.enter-entry.result G H rs (vec_items b.entries) b.used c.requires.0 s.room l eight c.add.ensures c.args.from c.enter-entry.ensures u);
       cap = refl;
       board = refl;
     }
 
 pub invariant_of-grid-2 : goal.invariant_of-grid-2
 invariant_of-grid-2 g c =
+    let eight : length c.args.registers.now ≡ 8 = search rules in
     let class = g.K.Kind.class in
     let s = c.args.grid.now in
     let slot = c.args.slot in
@@ -61,8 +63,8 @@ invariant_of-grid-2 g c =
     let b = c.enter-entry.new.self in
     let rs = c.args.registers.now in
     let l : count_at s.front slot < s.cap = c.if-count-cap.false in
-    let f = fits_in class s.cap slot c.args.state c.enter-entry.result G H rs (vec_items b.entries) b.used c.requires.0 s.room l c.requires.1 c.add.ensures in record {
+    let f = fits_in class s.cap slot c.args.state c.enter-entry.result G H rs (vec_items b.entries) b.used c.requires.0 s.room l eight c.add.ensures in record {
       room = subst (λ z. Room s.cap (grid H z (vec_items b.entries) b.used))
-          (sym (board_put s.board c.deref_mut.result.now c.put_configuration.new.rows rs (slot * (8 * s.cap) + 8 * count_at s.front slot) c.deref_mut.ensures.value c.put_configuration.ensures f c.requires.1))
-          (added_room class s.cap slot c.args.state c.enter-entry.result G H rs (vec_items b.entries) b.used c.requires.0 s.room l c.requires.1 c.add.ensures c.enter-entry.ensures.more c.enter-entry.ensures.known);
+          (sym (board_put s.board c.deref_mut.result.now c.put_configuration.new.rows rs (slot * (8 * s.cap) + 8 * count_at s.front slot) c.deref_mut.ensures.value c.put_configuration.ensures f eight))
+          (added_room class s.cap slot c.args.state c.enter-entry.result G H rs (vec_items b.entries) b.used c.requires.0 s.room l eight c.add.ensures c.enter-entry.ensures.more c.enter-entry.ensures.known);
     }
