@@ -64,6 +64,7 @@ fn implied_by(any: &[Matcher; 1]) -> Numbered<'_>
 }
 
 // A configuration comes to a position: told where its state is `error`; noted where there are more than the position may have.
+// Kept the bound on the entry in its terms, as in the moves below: it is one on the book of the grid beside it, so no Entry or Mark can hold it.
 fn land<K: Kind>(
     grid: &mut Grid<K::Value>,
     slot: usize,
@@ -238,13 +239,14 @@ fn step_row<K: Kind>(
     // Kept an index loop: the grid that the row stands in is changed on the way, so no iterator can hold the row.
     for i in 0..count {
         let at = grid.front.mark_at(source, i);
-        let held = registers_at::<K>(&grid.board, grid.cap, source, i);
+        let held = registers_at::<K>(grid, source, i);
         step_configuration::<K>(grid, scene, way, at, &held)?;
     }
     Ok(())
 }
 
 // What the moves from the positions from `base` on bring to position p.
+// Kept the bounds on p and base in its terms: they tie both to the events of the scene beside them, so no type of two positions can hold them.
 fn step_rows<K: Kind>(
     grid: &mut Grid<K::Value>,
     scene: &Scene<'_, K::Value>,

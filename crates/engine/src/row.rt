@@ -45,14 +45,14 @@ pub(crate) fn start(cap: usize, slot: usize) -> usize
 }
 
 // A position's part of the board.
-fn part_of<V: Copy>(rows: &[V], cap: usize, slot: usize) -> &[V]
-    requires { (slot < 5) × (cap ≤ 64) × (40 * cap ≤ length rows.now) }
-    ensures is { result.now ≡ take (8 * cap) (drop (slot * (8 * cap)) rows.now) }
-    ensures long { length result.now ≡ 8 * cap }
+fn part_of<V: Copy>(grid: &Grid<V>, slot: usize) -> &[V]
+    requires { slot < 5 }
+    ensures is { result.now ≡ take (8 * grid.now.cap) (drop (slot * (8 * grid.now.cap)) grid.now.board.items) }
+    ensures long { length result.now ≡ 8 * grid.now.cap }
 {
-    let from = start(cap, slot);
-    let to = from + 8 * cap;
-    &rows[from..to]
+    let from = start(grid.cap, slot);
+    let to = from + 8 * grid.cap;
+    &grid.board[from..to]
 }
 
 // Writes some values over a part, from a place on.
@@ -66,6 +66,7 @@ pub(crate) fn write_at<V: Copy>(part: &mut [V], from: usize, values: &[V])
 }
 
 // Writes the registers of configuration i of a position: the position's part of the board is lent on.
+// Kept cap and length in its terms: it gets the board alone, not the grid whose invariant has both.
 pub(crate) fn put_configuration<V: Copy>(
     rows: &mut [V],
     cap: usize,
@@ -83,20 +84,15 @@ pub(crate) fn put_configuration<V: Copy>(
 }
 
 // The registers of configuration i of a position.
-pub(crate) fn registers_at<K: Kind>(
-    rows: &[K::Value],
-    cap: usize,
-    slot: usize,
-    i: usize,
-) -> [K::Value; 8]
-    requires { (slot < 5) × (cap ≤ 64) × (40 * cap ≤ length rows.now) × (i < cap) }
-    ensures are { result ≡ take 8 (drop (8 * i) (drop (slot * (8 * cap)) rows.now)) }
+pub(crate) fn registers_at<K: Kind>(grid: &Grid<K::Value>, slot: usize, i: usize) -> [K::Value; 8]
+    requires { (slot < 5) × (i < grid.now.cap) }
+    ensures are { result ≡ take 8 (drop (8 * i) (drop (slot * (8 * grid.now.cap)) grid.now.board.items)) }
     ensures eight { length result ≡ 8 }
 {
-    let from = start(cap, slot) + 8 * i;
+    let from = start(grid.cap, slot) + 8 * i;
     let to = from + 8;
     let mut held = [K::nothing(); 8];
-    held.copy_from_slice(&rows[from..to]);
+    held.copy_from_slice(&grid.board[from..to]);
     held
 }
 
@@ -117,7 +113,7 @@ pub(crate) fn arrive<K: Kind>(
     let count = grid.front.counts[slot];
     if find::<K>(
         grid.front.states_of(slot),
-        part_of(&grid.board, cap, slot),
+        part_of(grid, slot),
         state,
         registers,
     ) {

@@ -25,10 +25,7 @@ pub registers_at-held-requires : goal.registers_at-held-requires
 registers_at-held-requires g c =
     let b = c.args.grid.now.room.3 c.args.source in
     let e = c.loop-i.invariant.safe.cap in
-    let n = c.deref.ensures.len in
-    let m = ap length c.deref.ensures.value in
-    let r = c.loop-i.grid.room.1 in
-    (omega (arith, g.met.K.Kind.small), (c.requires.2, c.loop-i.grid.room.0, omega arith, omega (arith, c.loop-i-test.true)))
+    (omega (arith, g.met.K.Kind.small), (c.requires.2, omega (arith, c.loop-i-test.true)))
 
 pub step_configuration-requires : goal.step_configuration-requires
 step_configuration-requires g c =
@@ -72,7 +69,7 @@ returns-in_err-step_configuration g c =
           let R₂ = room_by s.cap s₂ S.cap in
           let B = c.loop-i.invariant.brings base P k w W T in
           let held = c.registers_at-held.result in
-          let h₀ = c.registers_at-held.ensures.are ∙ (ap (λ (z : ℕ). take 8 (drop (8 * i) (drop (source * (8 * z)) c.deref.result.now))) S.cap ∙ ap (λ z. take 8 (drop (8 * i) (drop (source * (8 * s.cap)) z))) c.deref.ensures.value) in
+          let h₀ = c.registers_at-held.ensures.are ∙ ap (λ (z : ℕ). take 8 (drop (8 * i) (drop (source * (8 * z)) (vec_items s₂.board)))) S.cap in
           let x = ap (λ (m : Mark). configuration class m.state held) c.mark_at-at.ensures ∙ row_read class s.cap source i G₀ G₂ held (first_configuration []) c.requires.2 s.room R₂ c.loop-i-test.true (B.1.other source c.requires.2 c.requires.3) h₀ in
           let e = ap (λ (m : Mark). steps_to (vec_items s₂.book.entries) m.entry) c.mark_at-at.ensures ∙ entry_steps class s.cap source i G₀ G₂ c.requires.2 s.room R₂ c.loop-i-test.true (S.spares source c.requires.3) B.1.kept in
           let r = subst (λ d. Reach P k w q d (steps_to (vec_items s₂.book.entries) c.mark_at-at.result.entry)) (sym x) (subst (Reach P k w q (get_or row i (first_configuration []))) (sym e) (T i c.loop-i-test.true)) in
@@ -103,7 +100,7 @@ loop-i-preserved g c =
           let R₂ = room_by s.cap s₂ S.cap in
           let B = c.loop-i.invariant.brings base P k w W T in
           let held = c.registers_at-held.result in
-          let h₀ = c.registers_at-held.ensures.are ∙ (ap (λ (z : ℕ). take 8 (drop (8 * i) (drop (source * (8 * z)) c.deref.result.now))) S.cap ∙ ap (λ z. take 8 (drop (8 * i) (drop (source * (8 * s.cap)) z))) c.deref.ensures.value) in
+          let h₀ = c.registers_at-held.ensures.are ∙ ap (λ (z : ℕ). take 8 (drop (8 * i) (drop (source * (8 * z)) (vec_items s₂.board)))) S.cap in
           let x = ap (λ (m : Mark). configuration class m.state held) c.mark_at-at.ensures ∙ row_read class s.cap source i G₀ G₂ held (first_configuration []) c.requires.2 s.room R₂ c.loop-i-test.true (B.1.other source c.requires.2 c.requires.3) h₀ in
           let e = ap (λ (m : Mark). steps_to (vec_items s₂.book.entries) m.entry) c.mark_at-at.ensures ∙ entry_steps class s.cap source i G₀ G₂ c.requires.2 s.room R₂ c.loop-i-test.true (S.spares source c.requires.3) B.1.kept in
           let r = subst (λ d. Reach P k w q d (steps_to (vec_items s₂.book.entries) c.mark_at-at.result.entry)) (sym x) (subst (Reach P k w q (get_or row i (first_configuration []))) (sym e) (T i c.loop-i-test.true)) in

@@ -1,4 +1,4 @@
-use Rattle.std.proofs.Common.{◌≡◌, ◌+◌, ◌*◌, ◌<◌, length, take, drop, vec_items, sym, refl, ap, ◌∙◌, subst, arith, rules}
+use Rattle.std.proofs.Common.{◌≡◌, ◌+◌, ◌*◌, ◌<◌, length, vec_items, sym, refl, ap, ◌∙◌, subst, arith, rules}
 use Rattle.topl.specs.Lists.{holds}
 use Rattle.topl.specs.Runs.{alikeᶜ}
 use Rattle.engine.specs.Fronts.{configuration, count_at, grid, Room, Comes}
@@ -18,7 +18,7 @@ returns-then-find g c =
     let class = g.K.Kind.class in
     let s = c.args.grid.now in
     let G = grid_of s in
-    let e = row_part class s.cap c.args.slot G c.part_of.result.now c.states_of.result.now c.requires.0 s.room c.states_of.ensures.are (c.part_of.ensures.is ∙ ap (λ z. take (8 * s.cap) (drop (c.args.slot * (8 * s.cap)) z)) c.deref.ensures.value) in
+    let e = row_part class s.cap c.args.slot G c.part_of.result.now c.states_of.result.now c.requires.0 s.room c.states_of.ensures.are c.part_of.ensures.is in
     record { arrives = (ap (λ z. holds alikeᶜ z (configuration class c.args.state c.args.registers.now)) (sym e) ∙ (sym c.find.ensures ∙ c.if-find.true), refl); cap = refl; board = refl }
 
 pub returns-then-count-cap : goal.returns-then-count-cap
@@ -26,7 +26,7 @@ returns-then-count-cap g c =
     let class = g.K.Kind.class in
     let s = c.args.grid.now in
     let G = grid_of s in
-    let e = row_part class s.cap c.args.slot G c.part_of.result.now c.states_of.result.now c.requires.0 s.room c.states_of.ensures.are (c.part_of.ensures.is ∙ ap (λ z. take (8 * s.cap) (drop (c.args.slot * (8 * s.cap)) z)) c.deref.ensures.value) in
+    let e = row_part class s.cap c.args.slot G c.part_of.result.now c.states_of.result.now c.requires.0 s.room c.states_of.ensures.are c.part_of.ensures.is in
     let n = length_row_at class s.cap c.args.slot G c.requires.0 s.room in
     let m = c.args.grid.now.room.3 c.args.slot in
     record { arrives = (ap (λ z. holds alikeᶜ z (configuration class c.args.state c.args.registers.now)) (sym e) ∙ (sym c.find.ensures ∙ c.if-find.false), omega (arith, c.if-count-cap.true), refl); cap = refl; board = refl }
@@ -41,7 +41,7 @@ returns g c =
     let H = c.add.new.self in
     let b = c.enter-entry.new.self in
     let rs = c.args.registers.now in
-    let e = row_part class s.cap slot G c.part_of.result.now c.states_of.result.now c.requires.0 s.room c.states_of.ensures.are (c.part_of.ensures.is ∙ ap (λ z. take (8 * s.cap) (drop (slot * (8 * s.cap)) z)) c.deref.ensures.value) in
+    let e = row_part class s.cap slot G c.part_of.result.now c.states_of.result.now c.requires.0 s.room c.states_of.ensures.are c.part_of.ensures.is in
     let l : count_at s.front slot < s.cap = c.if-count-cap.false in
     let f = fits_in class s.cap slot c.args.state c.enter-entry.result G H rs (vec_items b.entries) b.used c.requires.0 s.room l eight c.add.ensures in
     let u = ap (λ z. holds alikeᶜ z (configuration class c.args.state rs)) (sym e) ∙ (sym c.find.ensures ∙ c.if-find.false) in record {
@@ -52,8 +52,8 @@ returns g c =
       board = refl;
     }
 
-pub invariant_of-grid-2 : goal.invariant_of-grid-2
-invariant_of-grid-2 g c =
+pub invariant_of-grid : goal.invariant_of-grid
+invariant_of-grid g c =
     let eight : length c.args.registers.now ≡ 8 = search rules in
     let class = g.K.Kind.class in
     let s = c.args.grid.now in
