@@ -141,7 +141,7 @@ fn step_statement<K: Kind>(
     at: Mark,
     held: &[K::Value; 8],
 ) -> Result<(), Entry>
-    requires { (way.from ≤ length scene.now.events.now) × (way.slot < 5) × (at.entry < grid.old.book.used)
+    requires { (way.from ≤ length scene.now.events.now) × (at.entry < grid.old.book.used)
         × (fit t.now.events.now ≡ true) }
     ensures safe { Safe way.slot grid.old grid.new result }
     ensures brings { (base : ℕ) (P : TheTable) (k : Registers) (w : World) → Watched K.Kind.class scene.now base P w
@@ -176,7 +176,7 @@ fn step_skip<K: Kind>(
     at: Mark,
     held: &[K::Value; 8],
 ) -> Result<(), Entry>
-    requires { (way.from ≤ length scene.now.events.now) × (way.slot < 5) × (at.entry < grid.old.book.used) }
+    requires { (way.from ≤ length scene.now.events.now) × (at.entry < grid.old.book.used) }
     ensures safe { Safe way.slot grid.old grid.new result }
     ensures brings { (base : ℕ) (P : TheTable) (k : Registers) (w : World) → Watched K.Kind.class scene.now base P w
         → Reach P k w (base + way.from) (configuration K.Kind.class at.state held.now) (steps_to grid.old.book.entries.items at.entry)
@@ -207,7 +207,7 @@ fn step_configuration<K: Kind>(
     at: Mark,
     held: &[K::Value; 8],
 ) -> Result<(), Entry>
-    requires { (way.from ≤ length scene.now.events.now) × (way.slot < 5) × (at.entry < grid.old.book.used) }
+    requires { (way.from ≤ length scene.now.events.now) × (at.entry < grid.old.book.used) }
     ensures safe { Safe way.slot grid.old grid.new result }
     ensures brings { (base : ℕ) (P : TheTable) (k : Registers) (w : World) → Watched K.Kind.class scene.now base P w
         → Reach P k w (base + way.from) (configuration K.Kind.class at.state held.now) (steps_to grid.old.book.entries.items at.entry)
@@ -228,7 +228,7 @@ fn step_row<K: Kind>(
     way: Way,
     source: usize,
 ) -> Result<(), Entry>
-    requires { (way.from ≤ length scene.now.events.now) × (way.slot < 5) × (source < 5) × (source ≢ way.slot) }
+    requires { (way.from ≤ length scene.now.events.now) × (source < 5) × (source ≢ way.slot) }
     ensures safe { Safe way.slot grid.old grid.new result }
     ensures brings { (base : ℕ) (P : TheTable) (k : Registers) (w : World) → Watched K.Kind.class scene.now base P w
         → Tracks K.Kind.class P k w (base + way.from) grid.old source

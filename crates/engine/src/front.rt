@@ -29,6 +29,7 @@ pub struct Way {
     pub from: usize,
     pub distance: usize,
     pub slot: usize,
+    ghost five: { slot < 5 },
 }
 
 // A configuration's state, and its entry in the book.

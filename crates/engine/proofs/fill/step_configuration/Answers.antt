@@ -19,7 +19,7 @@ step_statement-requires g c =
     let a = c.in_ok-step_skip.ensures.safe.more in
     let b = c.loop-i.invariant.safe.more in
     let f = fit_in c.args.scene.now.statements.now c.loop-i.i c.t-item.result c.args.scene.now.sound c.loop-i-test.true c.t-item.is in
-    (search rules, (c.requires.0, c.requires.1, omega (arith, c.requires.2), ap fit c.written_at.ensures.are ∙ f))
+    (search rules, (c.requires.0, omega (arith, c.requires.1), ap fit c.written_at.ensures.are ∙ f))
 
 pub returns-in_err-step_statement : goal.returns-in_err-step_statement
 returns-in_err-step_statement g c =
@@ -47,9 +47,9 @@ returns-in_err-step_statement g c =
           let is = written_is P ts W.statements i c.t-item.result c.loop-i-test.true c.t-item.is ∙ λ j. (sym c.written_at.ensures.number j, sym c.written_at.ensures.stands j) in
           let A = c.in_ok-step_skip.ensures.brings base P k w W r in
           let m = S.more in
-          let r₁ = subst (Reach P k w q d) (sym (A.1.kept c.args.at.entry c.requires.2)) r in
+          let r₁ = subst (Reach P k w q d) (sym (A.1.kept c.args.at.entry c.requires.1)) r in
           let B = c.loop-i.invariant.brings base P k w W r₁ in
-          let r₂ = subst (Reach P k w q d) (sym (B.1.kept c.args.at.entry (omega (arith, c.requires.2)))) r₁ in
+          let r₂ = subst (Reach P k w q d) (sym (B.1.kept c.args.at.entry (omega (arith, c.requires.1)))) r₁ in
           let h = c.in_err-step_statement.ensures.brings base P k w W (subst (λ z. z ∈ numbered P) is (get_or-∈ (numbered P) i (65, implied) l)) r₂ in
           let h₁ = subst (λ z. Brings class slot P k w p G₂ G₃ (landed p (lands w q d z)) (Err x)) (sym is) h in
           let h₂ = subst (λ z. Brings class slot P k w p G₁ G₃ z (Err x)) (sym (passing_more w q d p (numbered P) i l))
@@ -78,7 +78,7 @@ loop-i-preserved g c =
           let is = written_is P ts W.statements i c.t-item.result c.loop-i-test.true c.t-item.is ∙ λ j. (sym c.written_at.ensures.number j, sym c.written_at.ensures.stands j) in
           let m = c.in_ok-step_skip.ensures.safe.more in
           let B = c.loop-i.invariant.brings base P k w W r₁ in
-          let r₂ = subst (Reach P k w q d) (sym (B.1.kept c.args.at.entry (omega (arith, c.requires.2)))) r₁ in
+          let r₂ = subst (Reach P k w q d) (sym (B.1.kept c.args.at.entry (omega (arith, c.requires.1)))) r₁ in
           let h = c.in_ok-step_statement.ensures.brings base P k w W (subst (λ z. z ∈ numbered P) is (get_or-∈ (numbered P) i (65, implied) l)) r₂ in
           let h₁ = subst (λ z. Brings class slot P k w p G₂ G₃ (landed p (lands w q d z)) (Ok tt)) (sym is) h in
           subst (λ z. Brings class slot P k w p G₁ G₃ z (Ok tt)) (sym (passing_more w q d p (numbered P) i l))
@@ -109,9 +109,9 @@ returns g c =
           let is = numbered_end P ts W.statements i (let z : i ≡ length ts = omega (arith, c.loop-i-test.false) in z) ∙ λ j. (sym c.implied_by.ensures.number j, sym (c.implied_by.ensures.stands refl) j) in
           let A = c.in_ok-step_skip.ensures.brings base P k w W r in
           let m = S.more in
-          let r₁ = subst (Reach P k w q d) (sym (A.1.kept c.args.at.entry c.requires.2)) r in
+          let r₁ = subst (Reach P k w q d) (sym (A.1.kept c.args.at.entry c.requires.1)) r in
           let B = c.loop-i.invariant.brings base P k w W r₁ in
-          let r₂ = subst (Reach P k w q d) (sym (B.1.kept c.args.at.entry (omega (arith, c.requires.2)))) r₁ in
+          let r₂ = subst (Reach P k w q d) (sym (B.1.kept c.args.at.entry (omega (arith, c.requires.1)))) r₁ in
           let h = c.step_statement-2.ensures.brings base P k w W (subst (λ z. z ∈ numbered P) is (get_or-∈ (numbered P) i (65, implied) l)) r₂ in
           let h₁ = subst (λ z. Brings class slot P k w p G₂ G₃ (landed p (lands w q d z)) o) (sym is) h in
           let h₂ = subst (λ z. Brings class slot P k w p G₁ G₃ z o) (sym (passing_more w q d p (numbered P) i l))

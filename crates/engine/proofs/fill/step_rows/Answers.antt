@@ -26,7 +26,7 @@ pub step_row-requires : goal.step_row-requires
 step_row-requires g c =
     let l : c.loop-q.q < c.args.p = c.loop-q-test.true in
     let low : c.args.base ≤ c.loop-q.q = c.loop-q.auto.q in
-    (omega (arith, c.requires.0), omega arith, omega arith, λ z. omega arith)
+    (omega (arith, c.requires.0), omega arith, λ z. omega arith)
 
 pub returns-in_err-step_row : goal.returns-in_err-step_row
 returns-in_err-step_row g c =

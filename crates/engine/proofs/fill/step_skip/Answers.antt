@@ -15,7 +15,7 @@ returns-then-way-ne1 g c =
     let s = c.args.grid.now in
     let d = configuration g.K.Kind.class c.args.at.state c.args.held.now in record {
       safe = safe_none c.args.way.slot s;
-      brings = λ base P k w W r. brings_none g.K.Kind.class c.args.way.slot P k w (base + c.args.way.from + c.args.way.distance) c.requires.1 s _
+      brings = λ base P k w W r. brings_none g.K.Kind.class c.args.way.slot P k w (base + c.args.way.from + c.args.way.distance) c.args.way.five s _
           (far_skips P w (base + c.args.way.from) c.args.way.distance d c.if-way-ne1.true);
     }
 
@@ -27,7 +27,7 @@ returns-then-way-scene g c =
       brings = λ base P k w W r.
           let n = seen_long g.K.Kind.class c.args.scene.now.events.now (drop base w.events) W.events in
           let l : length (drop base w.events) ≤ c.args.way.from = omega (arith, c.if-way-scene.true) in
-          brings_none g.K.Kind.class c.args.way.slot P k w (base + c.args.way.from + c.args.way.distance) c.requires.1 s _
+          brings_none g.K.Kind.class c.args.way.slot P k w (base + c.args.way.from + c.args.way.distance) c.args.way.five s _
           (ap (landed (base + c.args.way.from + c.args.way.distance)) (skips_late P w base c.args.way.from d l));
     }
 
@@ -36,7 +36,7 @@ returns-then-not-is_quiet g c =
     let s = c.args.grid.now in
     let d = configuration g.K.Kind.class c.args.at.state c.args.held.now in record {
       safe = safe_none c.args.way.slot s;
-      brings = λ base P k w W r. brings_none g.K.Kind.class c.args.way.slot P k w (base + c.args.way.from + c.args.way.distance) c.requires.1 s _
+      brings = λ base P k w W r. brings_none g.K.Kind.class c.args.way.slot P k w (base + c.args.way.from + c.args.way.distance) c.args.way.five s _
           (loud_skips P w (base + c.args.way.from) (base + c.args.way.from + c.args.way.distance) d (sym (c.is_quiet.ensures base P w W) ∙ c.if-not-is_quiet.true));
     }
 
