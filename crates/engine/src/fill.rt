@@ -133,6 +133,7 @@ fn is_quiet<K: Kind>(
 }
 
 // What one statement brings from a configuration to the position at the end of a way.
+// Kept the bound on the way's beginning in its terms, as in the moves below: it is one on the events of the scene beside it, so no Way can hold it.
 fn step_statement<K: Kind>(
     grid: &mut Grid<K::Value>,
     scene: &Scene<'_, K::Value>,
