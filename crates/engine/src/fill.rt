@@ -49,7 +49,7 @@ fn written_at(i: usize, t: &Statement) -> Numbered<'_>
 }
 
 // The statement start -> start: *, by its matcher.
-// Kept a matcher that is handed in: `unsupported-static: in a constant, a borrow of a value that holds a struct with a ghost field ..`.
+// Kept the matcher as a parameter: as a constant the checker refuses it (`unsupported-static: in a constant, a borrow of a value that holds a struct with a ghost field ..`).
 fn implied_by(any: &[Matcher; 1]) -> Numbered<'_>
     ensures number { result.number ≡ 65 }
     ensures are { result.events.now ≡ any.now }
@@ -64,7 +64,7 @@ fn implied_by(any: &[Matcher; 1]) -> Numbered<'_>
 }
 
 // A configuration comes to a position: told where its state is `error`; noted where there are more than the position may have.
-// Kept the bound on the entry in its terms, as in the moves below: it is one on the book of the grid beside it, so no Entry or Mark can hold it.
+// Kept the bound on the entry in its terms, as in the moves below: it is one on the book, which changes while the entry is held.
 fn land<K: Kind>(
     grid: &mut Grid<K::Value>,
     slot: usize,
@@ -133,7 +133,6 @@ fn is_quiet<K: Kind>(
 }
 
 // What one statement brings from a configuration to the position at the end of a way.
-// Kept the bound on the way's beginning in its terms, as in the moves below: it is one on the events of the scene beside it, so no Way can hold it.
 fn step_statement<K: Kind>(
     grid: &mut Grid<K::Value>,
     scene: &Scene<'_, K::Value>,
@@ -247,7 +246,6 @@ fn step_row<K: Kind>(
 }
 
 // What the moves from the positions from `base` on bring to position p.
-// Kept the bounds on p and base in its terms: they tie both to the events of the scene beside them, so no type of two positions can hold them.
 fn step_rows<K: Kind>(
     grid: &mut Grid<K::Value>,
     scene: &Scene<'_, K::Value>,

@@ -66,7 +66,7 @@ pub(crate) fn write_at<V: Copy>(part: &mut [V], from: usize, values: &[V])
 }
 
 // Writes the registers of configuration i of a position: the position's part of the board is lent on.
-// Kept cap and length in its terms: it gets the board alone, not the grid whose invariant has both.
+// Kept its bounds in its terms: a position's part of the board is lent on alone, a fixed form of the project.
 pub(crate) fn put_configuration<V: Copy>(
     rows: &mut [V],
     cap: usize,

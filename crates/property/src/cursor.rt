@@ -6,7 +6,7 @@ use crate::spot::*;
 use crate::table::*;
 
 // The label that is being read: its kind, its method, where its pattern began, its patterns, and the registers that it writes.
-// Kept an array of slots, as in a call.
+// Kept arrays: the label is public and `Copy`, which an ArrayVec is not.
 #[derive(Clone, Copy)]
 pub struct Partial {
     pub kind: Kind,
@@ -21,7 +21,7 @@ pub struct Partial {
 // A place in the grammar: the spot, how many letters or patterns were counted there, the number of a method line, the label and the statement that are
 // being read, and whether `start` and `error` have been written.
 // Kept the count beside the spot: in the spot it would stand in six variants (Keyword, Param, Negated, Quoted, Unquote, Comma), each of which hands it on.
-// Kept two tests for the last: each holds or not by itself and has no value beside it, so an enum would have a variant for each of the four cases.
+// Kept two bools, `starts` and `errs`: each holds or not by itself and has no value beside it, so an enum would have a variant for each of the four cases.
 #[derive(Clone, Copy)]
 pub struct Cursor {
     pub spot: Spot,
@@ -34,7 +34,7 @@ pub struct Cursor {
 }
 
 // A slot that nothing was written into.
-// Kept fillers, as this slot and the 0 for a number and a target: an Option of each would be asked by all who read a finished statement, which has them.
+// Kept a filler, and 0 for a target that is not read yet: all who read a finished statement would have to ask an Option of each.
 const BLANK: Slot = Slot {
     pattern: Pattern::Any,
     place: 0,

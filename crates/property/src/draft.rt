@@ -88,7 +88,7 @@ impl Reading<'_> {
     }
 
     // The number of a state, which is the next one where it was not written yet, and 16 for all past the fifteenth.
-    // Kept a number for those past it: the definition state_number gives it, and an Option would be made 16 by its one caller; a text with so many states is refused, though not always here.
+    // Kept a number for those past it: the definition state_number gives it, and an Option would be made 16 by its one caller.
     pub(crate) fn state_number(&self, w: &[u8]) -> usize
         ensures { result ≡ state.state_number (seen self.now).sofar.others w.now }
     {

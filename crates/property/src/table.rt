@@ -53,7 +53,7 @@ pub struct Slot {
 }
 
 // A call of a method: of its slots as many count as the method has parameters.
-// Kept an array: an ArrayVec is not Copy, and cursors, statements and events are copied whole from step to step.
+// Kept an array: the type is public and `Copy`, which an ArrayVec is not.
 #[derive(Clone, Copy)]
 pub struct Call {
     pub number: u32,
