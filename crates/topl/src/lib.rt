@@ -1,4 +1,5 @@
-// The theory of the watch: automata, runs, the deciding rule and the ledger. Each function is a theorem, which its contract states.
+// The theory of the watch: automata, runs, the deciding rule and the ledger. Each function is a theorem, which its contract states. The text reader and the
+// watch share the patterns and the fixed states.
 #![tactic(auto)]
 
 ghost use Rattle.topl.specs.Theorems.{Bounded, Certain, Enumerates, FewSteps, Finding, Gains, LabelsJoin, LargerRulesAlike, Needs, Persists, PlacesAgree, Recognizes, Replays, RuleInWords, Stepping, Tested, Verdicts, Watching};
@@ -8,6 +9,9 @@ ghost use Rattle.topl.specs.Examples.{Examples, Excluded};
 
 use kinds::kind::Kind;
 use kinds::phase::Phase;
+
+pub mod pattern;
+pub mod states;
 
 // Settled runs persist: events that come later, and the end of the list, leave them runs with the same steps.
 pub fn settled_runs_persist()
