@@ -3,6 +3,7 @@ ghost use Rattle.std.specs.Prelude.{◌≡◌, ℕ, ◌<◌, ◌≤◌, ◌⊎�
 ghost use Rattle.forms.specs.Forms.{Before};
 
 // A fault that was found: its place and its number. Findings are ordered by place, and at one place by number.
+// Kept a number for the fault: faults of any language are ordered here, each language has reasons of its own, and the definition Before compares their numbers.
 #[derive(Clone, Copy, PartialEq, Eq, PartialOrd, Ord, Debug)]
 pub struct Finding {
     pub place: usize,

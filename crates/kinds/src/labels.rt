@@ -50,14 +50,14 @@ fn same_label(a: &Label, b: &Label) -> bool
 }
 
 // Reads a length and then a text of that length.
+#[tactic(auto, using(crate::specs::Texts::read_fault, crate::specs::Texts::read_long))]
 fn read_text(bytes: &[u8]) -> Result<(Label, usize), Fault>
     ensures { result ≡ label_read bytes.now }
 {
     let (length, count) = read_number(bytes)?;
-    if length == 0 || length > 16 {
+    let Ok(length @ 1..=16) = usize::try_from(length) else {
         return Err(BAD);
-    }
-    let length = length as usize;
+    };
     let rest = &bytes[count..];
     let Some(text) = rest.get(..length) else {
         return Err(CUT);

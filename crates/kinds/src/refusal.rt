@@ -1,6 +1,7 @@
 // Refusals: which layer found a fault, what it is, and where.
 ghost use Rattle.std.specs.Prelude.{◌≡◌, Some, decimal};
 ghost use Rattle.kinds.specs.Refusals.{name_of, number_of, placed, refusal_words};
+ghost use Rattle.kinds.specs.declared.refusal.Reason.TheVariants.{Text as of_text, Watch as of_watch};
 
 use crate::text_reason::TextReason;
 use crate::watch_reason::WatchReason;
@@ -109,6 +110,22 @@ impl Reason {
             Reason::Text(r) => r.number(),
             Reason::Watch(r) => r.number(),
         }
+    }
+}
+
+impl From<TextReason> for Reason {
+    ghost from_gives = { λ r x. x ≡ of_text r };
+
+    fn from(reason: TextReason) -> Reason {
+        Reason::Text(reason)
+    }
+}
+
+impl From<WatchReason> for Reason {
+    ghost from_gives = { λ r x. x ≡ of_watch r };
+
+    fn from(reason: WatchReason) -> Reason {
+        Reason::Watch(reason)
     }
 }
 
