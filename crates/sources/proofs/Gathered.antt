@@ -1,7 +1,6 @@
 -- Values that are read one after the other.
-use Rattle.std.proofs.Common.{◌≡◌, ℕ, suc, ◌+◌, ◌-◌, ◌<◌, ◌≤◌, List, [], ◌∷◌, ◌++◌, Ok, Err, Result, sym, refl, ap, ◌∙◌, arith}
-use Rattle.std.proofs.lemmas.List.{append_assoc, append-nil}
-use Rattle.sources.specs.Events.{Happening}
+use Rattle.std.proofs.Common.{◌≡◌, ℕ, suc, ◌+◌, ◌-◌, ◌<◌, List, [], ◌∷◌, ◌++◌, Ok, Err, Result, sym, refl, ap, ◌∙◌, arith}
+use Rattle.std.proofs.lemmas.List.{append_assoc}
 use Rattle.sources.specs.Format.{at, and_then, values_at, event_at}
 use Rattle.kinds.specs.declared.refusal.Fault.{Fault}
 use Rattle.kinds.specs.declared.refusal.Refusal.{Refusal}
@@ -14,15 +13,7 @@ prepend_one : {V : Type 0} (xs : List V) (v : V) (r : Result (List V × ℕ) Ref
 prepend_one xs v (Ok t) = ap (λ ys. Ok (ys, t.1)) (sym (append_assoc xs (v ∷ []) t.0))
 prepend_one xs v (Err f) = refl
 
-prepend_none : {V : Type 0} (r : Result (List V × ℕ) Refusal) → r ≡ prepend [] r
-prepend_none (Ok t) = refl
-prepend_none (Err f) = refl
-
 module _ {V : Type 0} (reads : List ℕ → Result (V × ℕ) Fault) (bytes : List ℕ) where
-  -- before the first value
-  pub none_read : (p n : ℕ) (xs : List V) → xs ≡ [] → values_at reads bytes p n ≡ prepend xs (values_at reads bytes p (n - 0))
-  none_read p n xs e = prepend_none (values_at reads bytes p n) ∙ ap (λ k. prepend [] (values_at reads bytes p k)) (omega arith) ∙ ap (λ ys. prepend ys (values_at reads bytes p (n - 0))) (sym e)
-
   module _ (whole : Result (List V × ℕ) Refusal) (p n i : ℕ) (xs : List V) (less : i < n) (left : whole ≡ prepend xs (values_at reads bytes p (n - i))) where
     one_left : whole ≡ prepend xs (values_at reads bytes p (suc (n - (i + 1))))
     one_left = let e : n - i ≡ suc (n - (i + 1)) = omega arith in left ∙ ap (λ k. prepend xs (values_at reads bytes p k)) e
@@ -37,14 +28,7 @@ module _ {V : Type 0} (reads : List ℕ → Result (V × ℕ) Fault) (bytes : Li
     pub one_refused : (f : Refusal) → Err f ≡ at reads bytes p → whole ≡ Err f
     one_refused f e = one_left ∙ ap (λ r. prepend xs (and_then r (λ w. and_then (values_at reads bytes w.1 (n - (i + 1))) (λ vs. Ok (w.0 ∷ vs.0, vs.1))))) (sym e)
 
-  -- after the last value
-  pub all_read : (whole : Result (List V × ℕ) Refusal) (p n i : ℕ) (xs : List V) → n ≤ i → whole ≡ prepend xs (values_at reads bytes p (n - i)) → whole ≡ Ok (xs, p)
-  all_read whole p n i xs h e = let z : n - i ≡ 0 = omega arith in e ∙ ap (λ k. prepend xs (values_at reads bytes p k)) z ∙ ap (λ ys. Ok (ys, p)) (append-nil xs)
-
--- the same with the id, as an event
+-- the same of an event
 module _ {V : Type 0} (reads : List ℕ → Result (V × ℕ) Fault) (bytes : List ℕ) (p n id : ℕ) where
   pub event_refused : (f : Refusal) → values_at reads bytes p n ≡ Err f → Err f ≡ event_at reads bytes p id n
   event_refused f e = sym (ap (λ w. and_then w (λ vs. Ok (record { id = id; values = vs.0 }, vs.1))) e)
-
-  pub event_read : (h : Happening V) (q : ℕ) → h.id ≡ id → values_at reads bytes p n ≡ Ok (h.values, q) → Ok (h, q) ≡ event_at reads bytes p id n
-  event_read h q i e = ap (λ k. Ok (record { id = k; values = h.values }, q)) i ∙ sym (ap (λ w. and_then w (λ vs. Ok (record { id = id; values = vs.0 }, vs.1))) e)

@@ -1,5 +1,5 @@
 -- How calls come about: the ways in which code proves them, and in which they are taken apart.
-use Rattle.std.proofs.Common.{◌≡◌, ℕ, ◌⊎◌, List, [], ◌∷◌, Some, None, Option, sym, refl, ap, ◌∙◌, subst, inl, inr, arith}
+use Rattle.std.proofs.Common.{◌≡◌, ℕ, ◌⊎◌, List, ◌∷◌, Some, None, Option, sym, refl, ap, ◌∙◌, subst, inl, inr, arith}
 use Rattle.kinds.specs.declared.phase.Phase.{Phase}
 use Rattle.kinds.specs.declared.phase.Phase.TheVariants.{Blank, Running, Broken, Spilled, Full, Kept}
 use Rattle.kinds.specs.declared.refusal.Reason.{Reason}
@@ -8,7 +8,7 @@ use Rattle.topl.specs.Lists.{Class}
 use Rattle.topl.specs.Table.{Event, Table}
 use Rattle.topl.specs.Runs.{closing}
 use Rattle.topl.specs.Deciding.{Ruling}
-use Rattle.topl.specs.Ledger.{Answer, Begins, Closes, Draws, Feeds, Ledger, Settles, Source, began, begin_reason, begun, draws_by, event_reason, feed_reason, or_reason, passed_on, phase_reason, refuse, rule, unless, with_event}
+use Rattle.topl.specs.Ledger.{Answer, Begins, Closes, Draws, Feeds, Ledger, Settles, Source, began, begin_reason, begun, draws_by, event_reason, feed_reason, or_reason, phase_reason, refuse, rule, unless, with_event}
 
 -- a call is refused, or does what it does
 pub refused_or : (l : Ledger) (does : Ledger × Answer → Type 0) (o : Option Reason) (r : Ledger × Answer) → unless l o does r →
@@ -38,10 +38,7 @@ module _ (l : Ledger) where
   pub begins_begun : (P : Table) (ks : List Class) (cap : ℕ) → begin_reason l P ks cap ≡ None → Begins l P ks cap (began l P ks cap, begun)
   begins_begun P ks cap e = when_not l (λ r. r ≡ (began l P ks cap, begun)) (begin_reason l P ks cap) (began l P ks cap, begun) e refl
 
-  -- a feed is refused by the phase, by the event, or ruled
-  pub feeds_not : (e : Event) (n : Reason) → phase_reason l.phase ≡ Some n → Feeds l e (l, refuse l n)
-  feeds_not e n i = when_refused l (Settles l (with_event l e) Running (rule l (with_event l e))) (feed_reason l e) n (ap (λ (o : Option Reason). or_reason o (event_reason l.table e)) i)
-
+  -- a feed is refused by the event, or ruled
   pub feeds_refused : (e : Event) (n : Reason) → l.phase ≡ Running → event_reason l.table e ≡ Some n → Feeds l e (l, refuse l n)
   feeds_refused e n r i =
       when_refused l (Settles l (with_event l e) Running (rule l (with_event l e))) (feed_reason l e) n (ap (λ (q : Phase). or_reason (phase_reason q) (event_reason l.table e)) r ∙ i)
@@ -51,22 +48,13 @@ module _ (l : Ledger) where
       when_not l (Settles l (with_event l e) Running (rule l (with_event l e))) (feed_reason l e) r (ap (λ (q : Phase). or_reason (phase_reason q) (event_reason l.table e)) i ∙ j)
       (subst (λ (z : Ruling). Settles l (with_event l e) Running z r) (sym k) s)
 
-  -- a close is refused by the phase, or ruled
-  pub closes_not : (n : Reason) → phase_reason l.phase ≡ Some n → Closes l (l, refuse l n)
-  closes_not n i = when_refused l (Settles l (closing l.judged) Kept (rule l (closing l.judged))) (phase_reason l.phase) n i
-
+  -- a close is ruled
   pub closes_ruled : (x : Ruling) (r : Ledger × Answer) → l.phase ≡ Running → rule l (closing l.judged) ≡ x → Settles l (closing l.judged) Kept x r → Closes l r
   closes_ruled x r i k s =
       when_not l (Settles l (closing l.judged) Kept (rule l (closing l.judged))) (phase_reason l.phase) r (ap phase_reason i)
       (subst (λ (z : Ruling). Settles l (closing l.judged) Kept z r) (sym k) s)
 
-  -- a draw is refused by the phase, finds no event, or feeds the first
-  pub draws_not : (s : Source) (n : Reason) → phase_reason l.phase ≡ Some n → Draws l s (l, refuse l n) s
-  draws_not s n i = subst (λ (o : Option Reason). draws_by o l s (l, refuse l n) s) (sym i) (refl, refl)
-
-  pub draws_none : (end : Ending) → l.phase ≡ Running → Draws l (record { waiting = []; ending = end }) (l, passed_on end) (record { waiting = []; ending = end })
-  draws_none end i = subst (λ (q : Phase). draws_by (phase_reason q) l (record { waiting = []; ending = end }) (l, passed_on end) (record { waiting = []; ending = end })) (sym i) (refl, refl)
-
+  -- a draw feeds the first event
   pub draws_fed : (e : Event) (es : List Event) (end : Ending) (r : Ledger × Answer) → l.phase ≡ Running → Feeds l e r → Draws l (record { waiting = e ∷ es; ending = end }) r (record { waiting = es; ending = end })
   draws_fed e es end r i f = subst (λ (q : Phase). draws_by (phase_reason q) l (record { waiting = e ∷ es; ending = end }) r (record { waiting = es; ending = end })) (sym i) (f, refl)
 

@@ -1,7 +1,7 @@
 -- The moves out of a configuration, statement by statement, and what they bring to a position: the laws of the loops that make them.
 use Rattle.std.proofs.Common.{◌≡◌, ℕ, zero, suc, ◌+◌, ◌<◌, ◌≤◌, Bool, true, false, cond, ◌&&◌, eqb, List, [], ◌∷◌, ◌++◌, length, get_or, take, drop, sym, refl, ap, ◌∙◌, ap₂, append_assoc, arith}
 use Rattle.std.proofs.lemmas.List.{append-nil, take_more, drop-drop, drop_more, drop_all, take-append-drop}
-use Rattle.std.proofs.lemmas.Bool.{and_left, cond-true, cond-false, eq-eqb, ne_eqb}
+use Rattle.std.proofs.lemmas.Bool.{cond-true, cond-false, eq-eqb, ne_eqb}
 use Rattle.topl.specs.Lists.{each}
 use Rattle.topl.specs.Table.{Statement, Table, count_from, implied, matchers, numbered, span}
 use Rattle.topl.specs.Runs.{Configuration, Landing, Mode, Outcome, Registers, World, calm, calms, fails, fares, hangs, has_come, landing_of, lands, moves, outcome_of, passes, passing, quiet, skips}
@@ -50,35 +50,7 @@ module _ (w : World) (p : ℕ) (c : Configuration) where
   passing_more q ts i l =
       ap (λ z. landed q (passing w p c z)) (take_more ts i (65, implied) l) ∙ (ap (landed q) (passing_push (take i ts) (get_or ts i (65, implied))) ∙ landed_append q (passing w p c (take i ts)) (lands w p c (get_or ts i (65, implied))))
 
-  quiet_push : (ts : List (ℕ × Statement)) (t : ℕ × Statement) → quiet w p c (ts ++ t ∷ []) ≡ (quiet w p c ts && calms w p c t)
-  quiet_push [] t = last (calms w p c t)
-    where
-      last : (b : Bool) → (b && true) ≡ b
-      last true = refl
-      last false = refl
-  quiet_push (u ∷ ts) t = ap (λ z. calms w p c u && z) (quiet_push ts t) ∙ assoc (calms w p c u) (quiet w p c ts) (calms w p c t)
-    where
-      assoc : (a b d : Bool) → (a && (b && d)) ≡ ((a && b) && d)
-      assoc true b d = refl
-      assoc false b d = refl
-
-  pub quiet_more : (ts : List (ℕ × Statement)) (i : ℕ) → i < length ts → quiet w p c (take (i + 1) ts) ≡ (quiet w p c (take i ts) && calms w p c (get_or ts i (65, implied)))
-  quiet_more ts i l = ap (quiet w p c) (take_more ts i (65, implied) l) ∙ quiet_push (take i ts) (get_or ts i (65, implied))
-
-  -- one that is not calm is enough
-  pub loud : (ts : List (ℕ × Statement)) (i : ℕ) → i < length ts → calms w p c (get_or ts i (65, implied)) ≡ false → quiet w p c ts ≡ false
-  loud [] i l h = absurd (omega arith)
-  loud (t ∷ ts) zero l h = and_left (calms w p c t) (quiet w p c ts) h
-  loud (t ∷ ts) (suc i) l h = right (calms w p c t) (quiet w p c ts) (loud ts i (omega arith) h)
-    where
-      right : (a b : Bool) → b ≡ false → (a && b) ≡ false
-      right true b e = e
-      right false b e = refl
-
 module _ (w : World) (base from : ℕ) (c : Configuration) (t : ℕ × Statement) (S : Statement) (e : t.1 ≡ S) where
-  abbrev Fared : Outcome
-  Fared = fares (matchers S) c.registers (drop from (drop base w.events))
-
   pub fared : outcome_of w (base + from) c t ≡ fares (matchers S) c.registers (drop from (drop base w.events))
   fared = ap (λ z. fares (matchers z) c.registers (drop (base + from) w.events)) e ∙ ap (fares (matchers S) c.registers) (sym (drop-drop from base w.events))
 

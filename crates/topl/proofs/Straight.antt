@@ -8,9 +8,6 @@ abbrev pub Fires : Tuple → List Guarded → List Tuple → Tuple → Type 0
 Fires s [] w s' = (w ≡ []) × (s ≡ s')
 Fires s (l ∷ ls) w s' = (ℓ : Tuple) × (v : List Tuple) × (w ≡ ℓ ∷ v) × Sat s ℓ l.0 × Fires (act l.1 ℓ s) ls v s'
 
-Link : Type 0
-Link = ℕ × Guarded × ℕ
-
 links_from : (i : ℕ) (ls : List Guarded) (t : ℕ × Guarded × ℕ) → t ∈ links i ls → i ≤ t.0
 links_from i [] t h = absurd (Memᴰ.not-nil h)
 links_from i (l ∷ ls) t h = go' (links_from (suc i) ls t) (Memᴰ.cases_cons h)

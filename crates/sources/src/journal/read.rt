@@ -27,7 +27,7 @@ const VERSION: u8 = 1;
 
 // What a reading finds at the place, which then moves past it; a fault is placed there, and nothing moves.
 // Kept bytes and place as two parameters, each time with the fact that the place is within: the guard borrows the place alone, to put it back on every way out.
-// A reading is passed in a closure: a function by its name "does not fit the bound `Fn` yet", says the checker.
+// Kept a closure for each reading: a function by its name "does not fit the bound `Fn` yet", says the checker.
 fn take<V: Copy, R: Fn(&[u8]) -> Result<(V, usize), Fault>>(
     bytes: &[u8],
     place: &mut Place,
@@ -46,6 +46,7 @@ fn take<V: Copy, R: Fn(&[u8]) -> Result<(V, usize), Fault>>(
 }
 
 // The event of an id with as many values, which stand at the place.
+#[tactic(auto, using(crate::proofs::Gathered::one_refused, crate::proofs::Gathered::event_refused))]
 fn take_event<K: Kind>(
     bytes: &[u8],
     place: &mut Place,
@@ -58,7 +59,7 @@ fn take_event<K: Kind>(
     ensures within { place.new.at ≤ length bytes.now }
 {
     let mut event = Event::bare(K::nothing(), id);
-    // A counted loop that reads no index: each turn takes one value.
+    // Kept a counted loop: each turn takes one value, and no index is read.
     for _i in 0..count {
         event.push(take(bytes, place, |b: &[u8]| K::read(b))?);
     }
@@ -114,15 +115,15 @@ impl<'a, K: Kind> Journal<'a, K> {
             start,
         };
         let id = take(bytes, guard.place, |b: &[u8]| read_number(b))?;
-        if id > u64::from(LAST_ID) {
+        let Ok(id @ ..=LAST_ID) = u32::try_from(id) else {
             return Err(Layer::Journal.refusal(Reason::WildId, start));
-        }
-        let id = id as u32;
+        };
         let count = take(bytes, guard.place, |b: &[u8]| read_number(b))?;
-        if count > most_values(id) as u64 {
-            return Err(Layer::Journal.refusal(Reason::TooManyValues, start));
-        }
-        let event = take_event::<K>(bytes, guard.place, id, count as usize)?;
+        let count = match usize::try_from(count) {
+            Ok(count) if count <= most_values(id) => count,
+            _ => return Err(Layer::Journal.refusal(Reason::TooManyValues, start)),
+        };
+        let event = take_event::<K>(bytes, guard.place, id, count)?;
         guard.accept();
         Ok(event)
     }
