@@ -25,12 +25,12 @@ pub enum Stage<'a> {
     Kept,
 }
 
-impl Stage<'_> {
-    // The phase alone.
-    pub(crate) fn phase(self) -> Phase
-        ensures { result ≡ phase_of self.entry }
-    {
-        match self {
+// The phase alone.
+impl From<Stage<'_>> for Phase {
+    ghost from_gives = { λ stage phase. phase ≡ phase_of stage };
+
+    fn from(stage: Stage<'_>) -> Phase {
+        match stage {
             Stage::Blank => Phase::Blank,
             Stage::Running(_) => Phase::Running,
             Stage::Broken(_) => Phase::Broken,
@@ -39,7 +39,9 @@ impl Stage<'_> {
             Stage::Kept => Phase::Kept,
         }
     }
+}
 
+impl Stage<'_> {
     // The position, if it is broken.
     pub(crate) fn position(self) -> Option<usize>
         ensures { result ≡ position_of self.entry }

@@ -17,7 +17,8 @@ use engine::front::Ruling;
 use engine::property::Table;
 use engine::rows::Rows;
 use kinds::kind::Kind;
-use kinds::refusal::{Reason, Refusal};
+use kinds::phase::Phase;
+use kinds::refusal::Refusal;
 use kinds::watch_reason::WatchReason;
 use sources::source::Source;
 
@@ -40,7 +41,7 @@ impl<'a, K: Kind> Watch<'a, K> {
         ensures { (l : Ledger) → Shows self.now l → tells result ≡ verdict_of l }
     {
         Verdict {
-            phase: self.held.stage.phase(),
+            phase: Phase::from(self.held.stage),
             judged: self.held.judged,
             position: self.held.stage.position(),
         }
@@ -51,9 +52,9 @@ impl<'a, K: Kind> Watch<'a, K> {
         ensures { (l : Ledger) → Shows self.now l → paged result page.new ≡ path_on l page.old }
     {
         let Stage::Broken(breach) = self.held.stage else {
-            return Err(self.refuse(Reason::Watch(WatchReason::NotBroken)));
+            return Err(self.refuse(WatchReason::NotBroken));
         };
-        let short = self.refuse(Reason::Watch(WatchReason::SmallPage));
+        let short = self.refuse(WatchReason::SmallPage);
         self.rows.path(breach.last, page).ok_or(short)
     }
 
@@ -68,7 +69,7 @@ impl<'a, K: Kind> Watch<'a, K> {
     {
         self.may_begin(constants.len(), table.constants().len(), cap)?;
         let Ok(()) = self.rows.open(table, constants, cap) else {
-            return Err(self.refuse(Reason::Watch(WatchReason::SmallBoard)));
+            return Err(self.refuse(WatchReason::SmallBoard));
         };
         self.held.stage = Stage::Running(table);
         Ok(())
@@ -120,11 +121,11 @@ impl<'a, K: Kind> Watch<'a, K> {
         match ruling {
             Ruling::Spills => {
                 self.held.stage = Stage::Spilled;
-                Err(self.refuse(Reason::Watch(WatchReason::IsSpilled)))
+                Err(self.refuse(WatchReason::IsSpilled))
             }
             Ruling::Overfills => {
                 self.held.stage = Stage::Full;
-                Err(self.refuse(Reason::Watch(WatchReason::IsFull)))
+                Err(self.refuse(WatchReason::IsFull))
             }
             Ruling::Breaks(position, last) => {
                 self.held = Held {

@@ -19,10 +19,11 @@ use sources::event::make::{LAST_ID, most_values};
 
 impl<'a, K: Kind> Watch<'a, K> {
     // The refusal for a reason, placed at the judged count.
-    pub(crate) fn refuse(&self, reason: Reason) -> Refusal
-        ensures { result ≡ record { layer = of_watch; reason = reason; place = self.now.held.judged } }
+    pub(crate) fn refuse<R: Into<Reason>>(&self, reason: R) -> Refusal
+        ensures reason { R.converts reason result.reason }
+        ensures placed { (result.layer ≡ of_watch) × (result.place ≡ self.now.held.judged) }
     {
-        Layer::Watch.refusal(reason, self.held.judged)
+        Layer::Watch.refusal(reason.into(), self.held.judged)
     }
 
     // The table of a watch that runs; a feed, a draw and a close of any other are refused by its phase.
@@ -38,7 +39,7 @@ impl<'a, K: Kind> Watch<'a, K> {
             Stage::Full => WatchReason::IsFull,
             Stage::Kept => WatchReason::IsKept,
         };
-        Err(self.refuse(Reason::Watch(reason)))
+        Err(self.refuse(reason))
     }
 
     // Whether it may begin with so many constants, where so many are wanted, and a cap.
@@ -47,16 +48,16 @@ impl<'a, K: Kind> Watch<'a, K> {
             self.now.held.judged result }
     {
         let Stage::Blank = self.held.stage else {
-            return Err(self.refuse(Reason::Watch(WatchReason::BegunAlready)));
+            return Err(self.refuse(WatchReason::BegunAlready));
         };
         if cap == 0 || cap > 64 {
-            return Err(self.refuse(Reason::Watch(WatchReason::BadCap)));
+            return Err(self.refuse(WatchReason::BadCap));
         }
         if given != wanted {
-            return Err(self.refuse(Reason::Watch(WatchReason::OtherConstants)));
+            return Err(self.refuse(WatchReason::OtherConstants));
         }
         if self.rows.board_len() < 40 * cap + 64 || self.rows.book_len() == 0 {
-            return Err(self.refuse(Reason::Watch(WatchReason::SmallBoard)));
+            return Err(self.refuse(WatchReason::SmallBoard));
         }
         Ok(())
     }
@@ -72,7 +73,7 @@ impl<'a, K: Kind> Watch<'a, K> {
             return Err(self.refuse(Reason::TooManyValues));
         }
         if id % 2 == 0 && other_arity(methods, id, count) {
-            return Err(self.refuse(Reason::Watch(WatchReason::OtherArity)));
+            return Err(self.refuse(WatchReason::OtherArity));
         }
         Ok(())
     }
