@@ -1,7 +1,7 @@
 -- Lines of output: words parted by one space, ended by 0A.
 use Rattle.std.specs.Prelude.{◌≡◌, ℕ, List, [], ◌∷◌, ◌++◌, IfOk, Some, None, vec_items, codes, decimal, Option, Result}
 use Rattle.std.specs.List.{flat_map}
-use Rattle.kinds.specs.Refusals.{name_of, number_of}
+use Rattle.kinds.specs.Refusals.{refusal_words}
 use Rattle.kinds.specs.declared.refusal.Refusal.{Refusal}
 use Rattle.day.specs.declared.page.Page.{Page}
 
@@ -27,7 +27,7 @@ line first words = first ++ ended words
 
 -- The line that tells a refusal: its layer, its number and its place.
 abbrev pub refusal_line : Refusal → List ℕ
-refusal_line f = line (codes "refused") (name_of f.layer ∷ decimal (number_of f.reason) ∷ decimal f.place ∷ [])
+refusal_line f = line (codes "refused") (refusal_words f ∷ [])
 
 -- A value of the kind of numbers is printed in decimal.
 abbrev pub number_shown : Option ℕ → List ℕ

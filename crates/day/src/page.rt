@@ -5,7 +5,8 @@ ghost use Rattle.day.specs.Lines.{Writes, written};
 use std::alloc::{AllocError, Global};
 use std::fmt::Display;
 
-// What is written so far, and where its memory comes from; a label is bytes, so these are bytes too.
+// What is written so far, and where its memory comes from.
+// Kept bytes, not a `String`: a label's text is bytes, which a `String` would take only after a test that they are UTF-8.
 #[derive(Drop)]
 pub(crate) struct Page {
     heap: Global,

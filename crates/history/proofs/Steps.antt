@@ -1,7 +1,7 @@
 -- One call by the ledger, and a list of them.
-use Rattle.std.proofs.Common.{◌≡◌, ℕ, ◌<◌, ◌≤◌, List, [], ◌∷◌, ◌++◌, map, length, get_or, set, Some, None, Option, sym, refl, ap, ◌∙◌, subst, arith, Bor}
+use Rattle.std.proofs.Common.{◌≡◌, ℕ, ◌+◌, ◌<◌, ◌≤◌, List, [], ◌∷◌, ◌++◌, map, length, get_or, take, set, Some, None, Option, sym, refl, ap, ◌∙◌, subst, arith, Bor}
 use Rattle.std.specs.List.{slice_get}
-use Rattle.std.proofs.lemmas.List.{length-map, map-set, get_or-map}
+use Rattle.std.proofs.lemmas.List.{length-map, length_push, map-set, get_or-map, take_more}
 use Rattle.std.proofs.lemmas.Option.{slice_get-get_or, slice_get_past}
 use Rattle.kinds.specs.Refusals.{Ending}
 use Rattle.topl.specs.Lists.{Class}
@@ -78,17 +78,29 @@ log_more class [] (b ∷ answers) c a e = absurd (omega arith)
 log_more class (d ∷ cs) [] c a e = absurd (omega arith)
 log_more class (d ∷ cs) (b ∷ answers) c a e = ap (λ (h : Log). (call class d, answer b) ∷ h) (log_more class cs answers c a (omega arith))
 
-module _ {V : Type 0} (class : V → Class) where
-  pub history_step : (m n o : Moment) (cs cs' : List (Call V)) (answers answers' : List Answer) (c : Call V) (a : Answer) → length answers ≡ length cs → cs' ≡ cs ++ (c ∷ []) → answers' ≡ answers ++ (a ∷ []) →
-      History m (log class cs answers) n → Does n (call class c) (answer a) o → History m (log class cs' answers') o
-  history_step m n o cs cs' answers answers' c a e p q H d =
-      let i : log class cs' answers' ≡ log class cs answers ++ ((call class c, answer a) ∷ []) = (λ j. log class (p j) (q j)) ∙ log_more class cs answers c a e in
-      subst (λ (h : Log). History m h o) (sym i) (history_more m n o (log class cs answers) (call class c) (answer a) H d)
+-- Calls that were answered so, by a watch that was made over a board and a book of these lengths, left these sources, and the watch shows the ledger that they led to.
+abbrev pub Led : {V : Type 0} → (V → Class) → (Ledger → Type 0) → ℕ → ℕ → List Source → List (Call V) → List Answer → List Source → Type 0
+Led class shows board book W cs answers X =
+    (l : Ledger) × shows l × (length answers ≡ length cs) × History (made board book W) (log class cs answers) (moment l X)
 
-  -- a history of a watch from its making on is told whole
-  pub told : (board book : ℕ) (W X : List Source) (cs : List (Call V)) (answers : List Answer) (l : Ledger) → length answers ≡ length cs →
-      History (made board book W) (log class cs answers) (moment l X) → Told class board book W cs answers X
-  told board book W X cs answers l e H =
+module _ {V : Type 0} (class : V → Class) (board book : ℕ) (W X : List Source) where
+  -- one call more
+  pub led_more : (shows shows' : Ledger → Type 0) (Y : List Source) (cs : List (Call V)) (answers : List Answer) (i : ℕ) (c : Call V) (a : Answer) (answers' : List Answer) → Led class shows board book W (take i cs) answers X →
+      i < length cs → c ≡ get_or cs i c → answers' ≡ answers ++ (a ∷ []) → ((l : Ledger) → shows l → (m : Ledger) × shows' m × Does (moment l X) (call class c) (answer a) (moment m Y)) → Led class shows' board book W (take (i + 1) cs) answers' Y
+  led_more shows shows' Y cs answers i c a answers' (l, s, e, H) h p q step =
+      let d = step l s in
+      let front = take i cs in
+      let more : take (i + 1) cs ≡ front ++ (c ∷ []) = take_more cs i c h ∙ ap (λ z. front ++ (z ∷ [])) (sym p) in
+      let same : log class (take (i + 1) cs) answers' ≡ log class front answers ++ ((call class c, answer a) ∷ []) = (λ j. log class (more j) (q j)) ∙ log_more class front answers c a e in (
+        d.0,
+        d.1,
+        ap length q ∙ length_push answers a ∙ ap (λ n. n + 1) e ∙ sym (ap length more ∙ length_push front c),
+        subst (λ (z : Log). History (made board book W) z (moment d.0 Y)) (sym same) (history_more (made board book W) (moment l X) (moment d.0 Y) (log class front answers) (call class c) (answer a) H d.2),
+      )
+
+  -- it is told whole
+  pub led_told : (shows : Ledger → Type 0) (cs : List (Call V)) (answers : List Answer) → Led class shows board book W cs answers X → Told class board book W cs answers X
+  led_told shows cs answers (l, s, e, H) =
       let whole : Whole (made board book W) (log class cs answers) (moment l X) = telling board book W (log class cs answers) (moment l X) H in
       record {
         each = e;
@@ -97,10 +109,3 @@ module _ {V : Type 0} (class : V → Class) where
         lawful = throughout (made board book W) (moment l X) (log class cs answers) whole ((tested T.empty_table).0 refl) (hands_all class cs answers);
         left = refl;
       }
-
-  -- the same where the lengths of board and book, and the calls, are told in other words
-  pub finish : (board book board' book' : ℕ) (W X : List Source) (cs cs' : List (Call V)) (answers : List Answer) (l : Ledger) → board' ≡ board → book' ≡ book → cs ≡ cs' → length answers ≡ length cs →
-      History (made board' book' W) (log class cs answers) (moment l X) → Told class board book W cs' answers X
-  finish board book board' book' W X cs cs' answers l b k p e H =
-      let H₁ : History (made board book W) (log class cs answers) (moment l X) = subst (λ (z : ℕ × ℕ). History (made z.0 z.1 W) (log class cs answers) (moment l X)) (λ j. (b j, k j)) H in
-      subst (λ (z : List (Call V)). Told class board book W z answers X) p (told board book W X cs answers l e H₁)

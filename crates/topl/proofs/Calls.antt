@@ -16,9 +16,6 @@ pub refused_or : (l : Ledger) (does : Ledger × Answer → Type 0) (o : Option R
 refused_or l does (Some n) r u = inl (n, refl, u)
 refused_or l does None r u = inr (refl, u)
 
-pub when_refused : (l : Ledger) (does : Ledger × Answer → Type 0) (o : Option Reason) (n : Reason) → o ≡ Some n → unless l o does (l, refuse l n)
-when_refused l does o n e = rw e refl
-
 pub when_not : (l : Ledger) (does : Ledger × Answer → Type 0) (o : Option Reason) (r : Ledger × Answer) → o ≡ None → does r → unless l o does r
 when_not l does o r e d = subst (λ (z : Option Reason). unless l z does r) (sym e) d
 
@@ -31,18 +28,11 @@ pub is_none : (l : Ledger) (does : Ledger × Answer → Type 0) (o : Option Reas
 is_none l does o r e u = subst (λ (z : Option Reason). unless l z does r) e u
 
 module _ (l : Ledger) where
-  -- a begin is refused, or begins
-  pub begins_refused : (P : Table) (ks : List Class) (cap : ℕ) (n : Reason) → begin_reason l P ks cap ≡ Some n → Begins l P ks cap (l, refuse l n)
-  begins_refused P ks cap n e = when_refused l (λ r. r ≡ (began l P ks cap, begun)) (begin_reason l P ks cap) n e
-
+  -- a begin begins
   pub begins_begun : (P : Table) (ks : List Class) (cap : ℕ) → begin_reason l P ks cap ≡ None → Begins l P ks cap (began l P ks cap, begun)
   begins_begun P ks cap e = when_not l (λ r. r ≡ (began l P ks cap, begun)) (begin_reason l P ks cap) (began l P ks cap, begun) e refl
 
-  -- a feed is refused by the event, or ruled
-  pub feeds_refused : (e : Event) (n : Reason) → l.phase ≡ Running → event_reason l.table e ≡ Some n → Feeds l e (l, refuse l n)
-  feeds_refused e n r i =
-      when_refused l (Settles l (with_event l e) Running (rule l (with_event l e))) (feed_reason l e) n (ap (λ (q : Phase). or_reason (phase_reason q) (event_reason l.table e)) r ∙ i)
-
+  -- a feed is ruled
   pub feeds_ruled : (e : Event) (x : Ruling) (r : Ledger × Answer) → l.phase ≡ Running → event_reason l.table e ≡ None → rule l (with_event l e) ≡ x → Settles l (with_event l e) Running x r → Feeds l e r
   feeds_ruled e x r i j k s =
       when_not l (Settles l (with_event l e) Running (rule l (with_event l e))) (feed_reason l e) r (ap (λ (q : Phase). or_reason (phase_reason q) (event_reason l.table e)) i ∙ j)

@@ -1,21 +1,18 @@
 -- What making a watch and a begin do to the ledger that it shows.
-use Rattle.std.proofs.Common.{◌≡◌, ℕ, ◌+◌, ◌*◌, ◌<◌, ◌≤◌, List, map, length, Some, None, Ok, Err, vec_items, vec_len, sym, refl, ap, ◌∙◌, subst, arith, Bor}
+use Rattle.std.proofs.Common.{◌≡◌, ℕ, ◌+◌, ◌*◌, ◌<◌, ◌≤◌, List, map, length, None, Ok, vec_items, vec_len, sym, refl, ap, ◌∙◌, subst, arith, Bor}
 use Rattle.std.proofs.lemmas.List.{length-map}
 use Rattle.kinds.specs.declared.phase.Phase.TheVariants as phases
-use Rattle.kinds.specs.declared.refusal.Layer.TheVariants.{Watch}
-use Rattle.kinds.specs.declared.refusal.Refusal.{Refusal}
 use Rattle.topl.specs.Lists.{Class}
 use Rattle.topl.specs.Table as T
-use Rattle.topl.specs.Ledger.{Ledger, fresh, begun, refused, opening_reason, begin_reason, began, Begins}
+use Rattle.topl.specs.Ledger.{Ledger, fresh, begun, opening_reason, begin_reason, began, Begins}
 use Rattle.topl.specs.History.{Means}
-use Rattle.topl.proofs.Calls.{begins_refused, begins_begun}
+use Rattle.topl.proofs.Calls.{begins_begun}
 use Rattle.topl.proofs.Lawful.{tested}
 use Rattle.topl.proofs.Lasting.{lasting}
 use Rattle.topl.proofs.Refusing.{refusing}
 use Rattle.engine.specs.declared.property.Table.{Table}
 use Rattle.engine.specs.Meant.{meant}
 use Rattle.engine.specs.declared.state.State.{State}
-use Rattle.engine.specs.declared.rows.Unsuited.{Unsuited}
 use Rattle.engine.specs.Opening.{Opens}
 use Rattle.watch.specs.declared.held.Held.{Held}
 use Rattle.watch.specs.declared.held.Stage.{Stage}
@@ -23,7 +20,6 @@ use Rattle.watch.specs.declared.held.Stage.TheVariants.{Blank, Running}
 use Rattle.watch.specs.Stages.{phase_of}
 use Rattle.watch.specs.Turning.{in_stage}
 use Rattle.watch.specs.Shows.{Agrees}
-use Rattle.watch.proofs.Asking.{refusal_is}
 
 empty_lawful : T.Lawful T.empty_table
 empty_lawful = (tested T.empty_table).0 refl
@@ -55,22 +51,9 @@ module _ {V : Type 0} (class : V → Class) (s : State V) (h : Held) (l : Ledger
   reasons_same P values given wanted cap g w =
       λ j. opening_reason (sh.phase j) (sh.board j) (sh.book j) ((g ∙ sym (length-map values class)) j) (w j) cap
 
-  pub begin_refused : (P : T.Table) (ks : List Class) (cap : ℕ) (f : Refusal) → begin_reason l P ks cap ≡ Some f.reason → f ≡ record { layer = Watch; reason = f.reason; place = h.judged } →
-      Begins l P ks cap (l, refused f)
-  begin_refused P ks cap f e r =
-      subst (λ (g : Refusal). Begins l P ks cap (l, refused g)) (sym (refusal_is class s h l sh f f.reason r)) (begins_refused l P ks cap f.reason e)
-
   module _ (x : Bor Table) (values : List V) (cap : ℕ) (free : begin_reason l (meant x.now) (map class values) cap ≡ None) where
     fits : (l.phase ≡ phases.Blank) × (((0 < cap) × (cap ≤ 64)) × ((length (map class values) ≡ length (meant x.now).constants) × ((40 * cap + 64 ≤ l.board) × (0 < l.book))))
     fits = (refusing.0 l.phase l.board l.book (length (map class values)) (length (meant x.now).constants) cap).is_none.0 free
-
-    pub begin_suits : (t : State V) (u : Unsuited) → Opens class s t (meant x.now) values cap (Err u) → ⊥
-    begin_suits t u o =
-        let f = fits in
-        let a = length-map values class in
-        let b : length (vec_items s.grid.book.entries) ≡ l.book = sh.book in
-        let d : vec_len s.grid.board ≡ l.board = sh.board in
-        o.1 (omega (arith, f.1.0.0), f.1.0.1, sym f.1.1.0 ∙ a, omega (arith, f.1.1.1.0), omega (arith, f.1.1.1.1))
 
     pub begin_runs : (t : State V) → T.Lawful (meant x.now) → Opens class s t (meant x.now) values cap (Ok tt) →
         (m : Ledger) × Agrees class t (in_stage (Running x) h) m × Begins l (meant x.now) (map class values) cap (m, begun)

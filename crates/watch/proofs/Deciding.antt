@@ -2,7 +2,6 @@
 use Rattle.std.proofs.Common.{◌≡◌, ℕ, ◌<◌, min, List, [], ◌∷◌, ◌++◌, length, Some, None, Ok, vec_items, Result, sym, refl, ap, ◌∙◌, subst, arith, length-append, Bor}
 use Rattle.kinds.specs.declared.phase.Phase.TheVariants as phases
 use Rattle.kinds.specs.declared.refusal.Layer.TheVariants.{Watch}
-use Rattle.kinds.specs.declared.refusal.Reason.{Reason}
 use Rattle.kinds.specs.declared.refusal.Reason.TheVariants.{Watch as of_watch}
 use Rattle.kinds.specs.declared.watch_reason.WatchReason.{WatchReason}
 use Rattle.kinds.specs.declared.watch_reason.WatchReason.TheVariants.{IsSpilled, IsFull}
@@ -15,7 +14,7 @@ use Rattle.topl.specs.Theorems.{Steady}
 use Rattle.topl.specs.Ledger.{Ledger, Answer, says, refuse, refused, registers_of, world_of, turned, broken_at, rule, event_reason, with_event, Settles, Feeds, Closes}
 use Rattle.topl.specs.History.{Sound, Means}
 use Rattle.topl.proofs.Bounded.{bounded}
-use Rattle.topl.proofs.Calls.{feeds_refused, feeds_ruled, closes_ruled}
+use Rattle.topl.proofs.Calls.{feeds_ruled, closes_ruled}
 use Rattle.topl.proofs.Lasting.{lasting}
 use Rattle.engine.specs.declared.property.Table.{Table}
 use Rattle.engine.specs.Meant.{meant}
@@ -37,18 +36,10 @@ use Rattle.watch.specs.declared.held.Stage.TheVariants.{Running, Broken, Spilled
 use Rattle.watch.specs.Stages.{phase_of, position_of}
 use Rattle.watch.specs.Turning.{counted, idle, rests, stands, in_stage, ruled_out, Turned}
 use Rattle.watch.specs.Shows.{Agrees}
-use Rattle.watch.proofs.Asking.{refusal_is}
 
 module _ {V : Type 0} (class : V → Class) (s : State V) (h : Held) (l : Ledger) (sh : Agrees class s h l) where
   running : (x : Bor Table) → h.stage ≡ Running x → l.phase ≡ phases.Running
   running x i = sym sh.phase ∙ ap phase_of i
-
-  pub feed_refused : (e : T.Event) (n : Reason) (x : Bor Table) (f : Refusal) → h.stage ≡ Running x → event_reason (meant x.now) e ≡ Some n →
-      f ≡ record { layer = Watch; reason = n; place = h.judged } → Feeds l e (l, refused f)
-  feed_refused e n x f p k r =
-      let run = running x p in
-      let t : l.table ≡ meant x.now = sh.lent x p in
-      subst (λ (g : Refusal). Feeds l e (l, refused g)) (sym (refusal_is class s h l sh f n r)) (feeds_refused l e n run (ap (λ (P : T.Table). event_reason P e) t ∙ k))
 
   module _ (run : l.phase ≡ phases.Running) where
     means : Means l phases.Running
