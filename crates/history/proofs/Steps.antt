@@ -1,12 +1,11 @@
 -- One call by the ledger, and a list of them.
-use Rattle.std.proofs.Common.{◌≡◌, ℕ, ◌+◌, ◌<◌, ◌≤◌, List, [], ◌∷◌, ◌++◌, map, length, get_or, take, set, Some, None, Option, sym, refl, ap, ◌∙◌, subst, arith, Bor}
+use Rattle.std.proofs.Common.{◌≡◌, ℕ, ◌+◌, ◌<◌, List, [], ◌∷◌, ◌++◌, length, get_or, take, set, Some, Option, sym, refl, ap, ◌∙◌, subst, arith}
 use Rattle.std.specs.List.{slice_get}
 use Rattle.std.proofs.lemmas.List.{length-map, length_push, map-set, get_or-map, take_more}
-use Rattle.std.proofs.lemmas.Option.{slice_get-get_or, slice_get_past}
+use Rattle.std.proofs.lemmas.Option.{slice_get-get_or}
 use Rattle.kinds.specs.Refusals.{Ending}
 use Rattle.topl.specs.Lists.{Class}
 use Rattle.topl.specs.Table as T
-use Rattle.topl.specs.Theorems.{seen}
 use Rattle.topl.specs.Ledger as L
 use Rattle.topl.specs.Ledger.{Ledger, Source, Begins, Feeds, Closes, Draws, path_on, verdict, fresh}
 use Rattle.topl.specs.History as H
@@ -14,46 +13,23 @@ use Rattle.topl.specs.History.{Moment, Log, Does, draws_at, History, Whole, made
 use Rattle.topl.proofs.Lawful.{tested}
 use Rattle.topl.proofs.Telling.{telling}
 use Rattle.sources.specs.Events.{Happening}
-use Rattle.engine.specs.declared.property.Table.{Table}
-use Rattle.engine.specs.Meant as tables
 use Rattle.watch.specs.Shows.{meaning}
 use Rattle.history.specs.declared.call.Call.{Call}
-use Rattle.history.specs.declared.call.Call.TheVariants.{Begin, Feed, Draw, Close, Verdict, Path}
+use Rattle.history.specs.declared.call.Call.TheVariants.{Draw}
 use Rattle.history.specs.declared.call.Answer.{Answer}
 use Rattle.history.specs.Calls.{call, answer, log, meant, moment}
 use Rattle.history.specs.Whole.{Told}
 use Rattle.history.proofs.Lawfully.{throughout, hands_all}
 
-module _ {V : Type 0} (class : V → Class) (l m : Ledger) (W : List Source) (c : Call V) (a : Answer) (b : L.Answer) (says : answer a ≡ b) where
-  -- what a call is to the ledger, told by the call's variant and its answer
-  does : (d : Call V) → c ≡ d → (o : Moment) → Does (moment l W) (call class d) b o → Does (moment l W) (call class c) (answer a) o
-  does d is o h =
-      subst (λ (z : L.Answer). Does (moment l W) (call class c) z o) (sym says) (subst (λ (z : Call V). Does (moment l W) (call class z) b o) (sym is) h)
-
-  pub begin_at : (t : Bor Table) (ks : Bor (List V)) (cap : ℕ) → c ≡ Begin t ks cap → Begins l (tables.meant t.now) (map class ks.now) cap (m, b) →
-      Does (moment l W) (call class c) (answer a) (moment m W)
-  begin_at t ks cap is h = does (Begin t ks cap) is (moment m W) (h, refl)
-
-  pub feed_at : (id : ℕ) (vs : Bor (List V)) → c ≡ Feed id vs → Feeds l (seen class id vs.now) (m, b) → Does (moment l W) (call class c) (answer a) (moment m W)
-  feed_at id vs is h = does (Feed id vs) is (moment m W) (h, refl)
-
-  pub close_at : c ≡ Close → Closes l (m, b) → Does (moment l W) (call class c) (answer a) (moment m W)
-  close_at is h = does Close is (moment m W) (h, refl)
-
-  pub verdict_at : c ≡ Verdict → b ≡ verdict l → Does (moment l W) (call class c) (answer a) (moment l W)
-  verdict_at is h = does Verdict is (moment l W) (refl, h)
-
-  pub path_at : (page : Bor (List ℕ)) → c ≡ Path page → b ≡ path_on l page.now → Does (moment l W) (call class c) (answer a) (moment l W)
-  path_at page is h = does (Path page) is (moment l W) (refl, h)
+module _ {V : Type 0} (class : V → Class) (shows : Ledger → Type 0) (n : Moment) (X : List Source) (c d : Call V) (a : Answer) (b : L.Answer) (is : c ≡ d) (says : answer a ≡ b) where
+  -- what a call does, told by the call's variant and in the ledger's words
+  pub turned : ((m : Ledger) × shows m × Does n (call class d) b (moment m X)) → (m : Ledger) × shows m × Does n (call class c) (answer a) (moment m X)
+  turned t =
+      subst (λ (z : Call V). (m : Ledger) × shows m × Does n (call class z) (answer a) (moment m X)) (sym is)
+      (subst (λ (z : L.Answer). (m : Ledger) × shows m × Does n (call class d) z (moment m X)) (sym says) t)
 
 module _ {V S : Type 0} (class : V → Class) (w : S → List (Happening V)) (e : S → Ending) where
-  pub draw_past : (l : Ledger) (xs : List S) (c : Call V) (k : ℕ) → c ≡ Draw k → length xs ≤ k → Does (moment l (meant class w e xs)) (call class c) L.no_source (moment l (meant class w e xs))
-  draw_past l xs c k is h =
-      let W : List Source = meant class w e xs in
-      let none : slice_get W k ≡ None = slice_get_past W k (simp length-map h) in
-      let here : draws_at (moment l W) k (slice_get W k) L.no_source (moment l W) = subst (λ (o : Option Source). draws_at (moment l W) k o L.no_source (moment l W)) (sym none) (refl, refl) in
-      subst (λ (z : Call V). Does (moment l W) (call class z) L.no_source (moment l W)) (sym is) here
-
+  -- a draw from a source, which is what it left then
   pub draw_at : (l m : Ledger) (xs : List S) (c : Call V) (k : ℕ) (d y : S) (b : L.Answer) (a : Answer) → c ≡ Draw k → k < length xs →
       Draws l (meaning class (w (get_or xs k d)) (e (get_or xs k d))) (m, b) (meaning class (w y) (e y)) → answer a ≡ b →
       Does (moment l (meant class w e xs)) (call class c) (answer a) (moment m (meant class w e (set xs k y)))

@@ -15,6 +15,7 @@ use watch::watch::Watch;
 
 // Makes a watch over a board and a book, makes the calls on it in their order, and gives the answers. Where memory for them gives out, the first of the
 // calls were made.
+#[tactic(auto, using(crate::proofs::Sizes::watch_fits))]
 pub fn history<K: Kind, S: Source<K>>(
     heap: Global,
     board: Vec<K::Value>,

@@ -1,12 +1,9 @@
-use prog.Memory.{align, size}
-use denote.Memory.{lone}
-use Rattle.std.proofs.Common.{◌≡◌, ◌+◌, [], ◌∷◌, ◌++◌, take, vec_items, vec_len, sym, refl, subst, arith}
+use Rattle.std.proofs.Common.{◌+◌, [], ◌∷◌, ◌++◌, take, vec_items, vec_len, sym, refl, subst, arith}
 use Rattle.std.proofs.lemmas.List.{take_all}
 use Rattle.std.proofs.lemmas.Result.{MatchResult-from_err}
 use Rattle.watch.specs.Shows.{Shows}
 use Rattle.history.specs.Calls.{meant}
 use Rattle.history.specs.Whole.{Told}
-use Rattle.history.proofs.Sizes.{watch_fits}
 use Rattle.history.proofs.Steps.{Led, led_more, led_told}
 use Rattle.history.proofs.run.history.Goals as goal
 
@@ -50,9 +47,3 @@ returns g c =
     let means = meant class g.S.Source.waiting g.S.Source.ending in
     led_told class (vec_len c.args.board) (vec_len c.args.book) (means c.args.sources.now) (means c.loop-call.sources) (Shows c.loop-call.watch) c.args.calls.now (vec_items c.loop-call.answers)
     (subst (λ cs. Led class (Shows c.loop-call.watch) (vec_len c.args.board) (vec_len c.args.book) (means c.args.sources.now) cs (vec_items c.loop-call.answers) (means c.loop-call.sources)) (take_all c.loop-call.call-index c.args.calls.now (omega arith)) c.loop-call.invariant)
-
-pub new-watch-requires : goal.new-watch-requires
-new-watch-requires g c = let f = g.met.K.Kind.small in watch_fits (align (lone g.row.K-Value.mir)) (size (lone g.row.K-Value.mir)) f.1 f.0
-
-pub answer-requires : goal.answer-requires
-answer-requires g c = let f = g.met.K.Kind.small in watch_fits (align (lone g.row.K-Value.mir)) (size (lone g.row.K-Value.mir)) f.1 f.0
