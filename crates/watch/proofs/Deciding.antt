@@ -30,7 +30,7 @@ use Rattle.watch.specs.declared.standing.Standing.{Standing}
 use Rattle.watch.specs.declared.standing.Asked.{Asked}
 use Rattle.watch.specs.declared.standing.Asked.TheVariants.{Event, End}
 use Rattle.watch.specs.Answers.{told}
-use Rattle.watch.specs.declared.held.Breach.{Breach}
+use Rattle.engine.specs.declared.front.Breach.{Breach}
 use Rattle.watch.specs.declared.held.Stage.{Stage}
 use Rattle.watch.specs.declared.held.Stage.TheVariants.{Running, Broken, Spilled, Full}
 use Rattle.watch.specs.Stages.{phase_of, position_of}
@@ -82,15 +82,8 @@ module _ {V : Type 0} (class : V → Class) (s : State V) (h : Held) (l : Ledger
     rests_whole Event b e = let f : phases.Running ≡ phases.Broken = sym (sh.phase ∙ run) ∙ ap phase_of e in let z : ◌≡◌ {A = ℕ} 0 1 = cc in omega arith
     rests_whole End b e = let z : ◌≡◌ {A = ℕ} 0 1 = cc in omega arith
 
-    same_breach : (p : ℕ) (x : Entry) (b : Breach) → ◌≡◌ {A = Stage} (Broken (record { position = p; last = x })) (Broken b) → x ≡ b.last
-    same_breach p x b e = let same : ◌≡◌ {A = Breach} (record { position = p; last = x }) b = cc in ap (λ (c : Breach). c.last) same
-
-    same_known : (t : State V) (p : ℕ) (x : Entry) (b : Breach) → ◌≡◌ {A = Stage} (Broken (record { position = p; last = x })) (Broken b) → x.parent < t.grid.book.used → b.last.parent < t.grid.book.used
-    same_known t p x b e k = subst (λ (y : Entry). y.parent < t.grid.book.used) (same_breach p x b e) k
-
-    same_shown : (t : State V) (p : ℕ) (x : Entry) (b : Breach) → ◌≡◌ {A = Stage} (Broken (record { position = p; last = x })) (Broken b)
-        → steps_by (vec_items t.grid.book.entries) x ≡ steps_by (vec_items t.grid.book.entries) b.last
-    same_shown t p x b e = ap (steps_by (vec_items t.grid.book.entries)) (same_breach p x b e)
+    same_breach : (a b : Breach) → ◌≡◌ {A = Stage} (Broken a) (Broken b) → a ≡ b
+    same_breach a b e = cc
 
     told_idle : (asked : Asked) → told (Ok (stands asked)) ≡ says (idle asked) None
     told_idle Event = refl
@@ -121,11 +114,11 @@ module _ {V : Type 0} (class : V → Class) (s : State V) (h : Held) (l : Ledger
       -- a turn of the watch is one of the ledger
       turned_by : (d : Ruling) → Stays s t d → ComesTo s t l.table (registers_of l) l.judged w d → (d ≡ GoesOn → idle asked ≡ phases.Running → Follows class t l.table (registers_of l) w.events) →
           Turned h k d asked r → ((o : Ledger × Answer) → Settles l w (idle asked) (ruled d) o → Sound o.0) → (m : Ledger) × Agrees class t k m × Settles l w (idle asked) (ruled d) (m, told r)
-      turned_by (Breaks p x) stays C F u S =
-          let path = steps_by (vec_items t.grid.book.entries) x in
-          let m = broken_at l w p path in
-          let a : told r ≡ says phases.Broken (Some p) = ap told u.1 in
-          let o : Settles l w (idle asked) (D.breaks p) (m, told r) = (path, C.shown, λ j. (m, a j)) in (
+      turned_by (Breaks a) stays C F u S =
+          let path = steps_by (vec_items t.grid.book.entries) a.last in
+          let m = broken_at l w a.position path in
+          let says_so : told r ≡ says phases.Broken (Some a.position) = ap told u.1 in
+          let o : Settles l w (idle asked) (D.breaks a.position) (m, told r) = (path, C.shown, λ j. (m, says_so j)) in (
             m,
             subst (λ (z : Held). Agrees class t z m) (sym u.0) (record {
               phase = refl;
@@ -138,8 +131,8 @@ module _ {V : Type 0} (class : V → Class) (s : State V) (h : Held) (l : Ledger
               lent = λ y e. absurd (let z : ◌≡◌ {A = ℕ} 0 1 = cc in omega arith);
               cap = λ e. absurd (let z : ◌≡◌ {A = ℕ} 0 1 = cc in omega arith);
               follows = λ e. absurd (let z : ◌≡◌ {A = ℕ} 0 1 = cc in omega arith);
-              known = λ b e. same_known t p x b e (stays.known p x refl);
-              shown = λ b e. same_shown t p x b e;
+              known = λ b e. subst (λ (z : Breach). z.last.parent < t.grid.book.used) (same_breach a b e) (stays.known a refl);
+              shown = λ b e. ap (λ (z : Breach). steps_by (vec_items t.grid.book.entries) z.last) (same_breach a b e);
             }),
             o,
           )

@@ -15,7 +15,7 @@ use Rattle.engine.specs.Meant.{meant}
 use Rattle.engine.specs.declared.state.State.{State}
 use Rattle.engine.specs.States.{Follows}
 use Rattle.engine.specs.Trails.{steps_by}
-use Rattle.watch.specs.declared.held.Breach.{Breach}
+use Rattle.engine.specs.declared.front.Breach.{Breach}
 use Rattle.watch.specs.declared.held.Held.{Held}
 use Rattle.watch.specs.declared.held.Stage.TheVariants.{Running, Broken}
 use Rattle.watch.specs.declared.watch.Watch.{Watch}

@@ -46,7 +46,7 @@ ruled_out h n = Err (record { layer = Watch; reason = of_watch n; place = h.judg
 
 -- what is kept, before and after, with what is told
 abbrev pub Turned : Held → Held → Ruling → Asked → Result Standing Refusal → Type 0
-Turned h k (Breaks p x) asked r = (k ≡ record { stage = Broken (record { position = p; last = x }); judged = counted asked h.judged }) × (r ≡ Ok (standings.Broken p))
+Turned h k (Breaks b) asked r = (k ≡ record { stage = Broken b; judged = counted asked h.judged }) × (r ≡ Ok (standings.Broken b.position))
 Turned h k Spills asked r = (k ≡ in_stage Spilled h) × (r ≡ ruled_out h IsSpilled)
 Turned h k Overfills asked r = (k ≡ in_stage Full h) × (r ≡ ruled_out h IsFull)
 Turned h k GoesOn asked r = (k ≡ record { stage = rests asked h.stage; judged = counted asked h.judged }) × (r ≡ Ok (stands asked))

@@ -3,16 +3,9 @@ ghost use Rattle.std.specs.Prelude.{◌≡◌};
 ghost use Rattle.watch.specs.Stages.{phase_of, position_of};
 ghost use Rattle.watch.specs.declared.held.Stage.TheVariants.{Blank};
 
-use engine::entry::Entry;
+use engine::front::Breach;
 use engine::property::Table;
 use kinds::phase::Phase;
-
-// Where a run reaches `error`, and the last step of the run that is shown.
-#[derive(Clone, Copy)]
-pub struct Breach {
-    pub position: usize,
-    pub last: Entry,
-}
 
 // The phase, with what the watch keeps for it: the table that was lent while it runs, and the breach once it is broken.
 #[derive(Clone, Copy)]

@@ -9,9 +9,10 @@ ghost use Rattle.watch.specs.Stages.{phase_of};
 ghost use Rattle.watch.specs.Turning.{Turned, counted as counted_of, rests, in_stage, stands};
 ghost use Rattle.watch.specs.Shows.{Shows, Turns, meaning};
 
-use crate::held::{Breach, Held, Stage};
+use crate::held::{Held, Stage};
 use crate::standing::{Asked, Standing, Verdict};
 use crate::watch::Watch;
+use engine::book::MOST_ENTRIES;
 use engine::entry::Entry;
 use engine::front::Ruling;
 use engine::property::Table;
@@ -21,9 +22,6 @@ use kinds::phase::Phase;
 use kinds::refusal::Refusal;
 use kinds::watch_reason::WatchReason;
 use sources::source::Source;
-
-// So many events are judged at most.
-const MOST_JUDGED: usize = 16_384;
 
 impl<'a, K: Kind> Watch<'a, K> {
     // A blank watch over a board and a book of any content and length.
@@ -127,12 +125,12 @@ impl<'a, K: Kind> Watch<'a, K> {
                 self.held.stage = Stage::Full;
                 Err(self.refuse(WatchReason::IsFull))
             }
-            Ruling::Breaks(position, last) => {
+            Ruling::Breaks(breach) => {
                 self.held = Held {
-                    stage: Stage::Broken(Breach { position, last }),
+                    stage: Stage::Broken(breach),
                     judged: counted(self.held.judged, asked),
                 };
-                Ok(Standing::Broken(position))
+                Ok(Standing::Broken(breach.position))
             }
             Ruling::GoesOn => {
                 self.held.judged = counted(self.held.judged, asked);
@@ -162,7 +160,7 @@ fn counted(judged: usize, asked: Asked) -> usize
     ensures { result ≡ counted_of asked judged }
 {
     match asked {
-        Asked::Event => judged.min(MOST_JUDGED - 1) + 1,
+        Asked::Event => judged.min(MOST_ENTRIES - 1) + 1,
         Asked::End => judged,
     }
 }
