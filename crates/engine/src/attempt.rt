@@ -33,7 +33,12 @@ fn meets_matcher<K: Kind>(
         Matcher::Any => true,
         Matcher::Event(guard) => {
             let mut values = guard.patterns.iter().zip(&event.places);
-            guard.id == event.id && values.all(|(p, v)| fits_pattern::<K>(registers, *v, *p))
+            guard.id == event.id
+                && values.all(
+                    |(p, v)| -> bool
+                        ensures { result ≡ fits (map K.Kind.class registers.entry.now) (K.Kind.class v.entry.now) (pattern p.entry.now) }
+                    { fits_pattern::<K>(registers, *v, *p) },
+                )
         }
     }
 }
