@@ -1,5 +1,5 @@
 -- The search for a configuration in a row, one by one.
-use Rattle.std.proofs.Common.{◌≡◌, ℕ, ◌+◌, ◌*◌, ◌<◌, ◌≤◌, Bool, true, false, cond, ◌&&◌, eqb, List, [], map, length, get_or, take, drop, sym, ap, ◌∙◌, ap₂, arith, length-drop, length-take}
+use Rattle.std.proofs.Common.{◌≡◌, ℕ, ◌+◌, ◌*◌, ◌<◌, ◌≤◌, Bool, true, false, cond, ◌&&◌, eqb, List, [], map, length, get_or, take, drop, Decides, sym, ap, ◌∙◌, ap₂, arith, length-drop, length-take}
 use Rattle.std.proofs.lemmas.List.{drop_more, drop-drop, drop_all, get_or-take, get_or-drop, length-map}
 use Rattle.std.proofs.lemmas.Bool.{ne_eqb, eq-eqb, and_left, and_right, and_from, cond-true, cond-false}
 use Rattle.topl.specs.Lists.{Class, alike, same_class, holds}
@@ -7,7 +7,7 @@ use Rattle.topl.specs.Table.{at}
 use Rattle.topl.specs.Runs.{Configuration, alikeᶜ}
 use Rattle.engine.specs.declared.configuration.Configuration as C
 use Rattle.engine.specs.Fronts.{stands_for, row}
-use Rattle.engine.proofs.Fits.{class_read}
+use Rattle.engine.proofs.Fits.{class_read, same_at}
 
 alike_more : {X : Type 0} (test : X → X → Bool) (d : X) (xs ys : List X) (r : ℕ) → r < length xs → r < length ys → alike test (drop r xs) (drop r ys) ≡ (test (get_or xs r d) (get_or ys r d) && alike test (drop (r + 1) xs) (drop (r + 1) ys))
 alike_more test d xs ys r l m = ap₂ (alike test) (drop_more xs r d l) (drop_more ys r d m)
@@ -27,17 +27,17 @@ module _ {V : Type 0} (class : V → Class) (states : List ℕ) (values : List V
   long = simp (length-take, length-drop) (omega arith)
 
   -- register r is x in the configuration and y in the row
-  pub alike_step : (r : ℕ) (x y : V) (b : Bool) → r < 8 → x ≡ get_or c.registers r x → y ≡ get_or values (8 * i + r) y → b ≡ same_class (class x) (class y) → AlikeFrom r →
+  pub alike_step : (r : ℕ) (x y : V) (a b : Bool) → r < 8 → x ≡ get_or c.registers r x → y ≡ get_or values (8 * i + r) y → Decides a (class x ≡ class y) → a ≡ b → AlikeFrom r →
       alike same_class (map class c.registers) (map class (take 8 (drop (8 * i) values))) ≡ (b && alike same_class (drop (r + 1) (map class c.registers)) (drop (r + 1) (map class (take 8 (drop (8 * i) values)))))
   unfolding here long
-  alike_step r x y b k ix iy eb inv =
+  alike_step r x y a b k ix iy h ab inv =
       let g = long in
       let eight = c.eight in
       let iy' : y ≡ get_or (take 8 (drop (8 * i) values)) r y = iy ∙ sym (get_or-take 8 (drop (8 * i) values) r y k ∙ get_or-drop (8 * i) values r y) in
-      let a : class x ≡ at (map class c.registers) r = class_read class c.registers r x (omega arith) ix in
       let d : class y ≡ at (map class (take 8 (drop (8 * i) values))) r = class_read class (take 8 (drop (8 * i) values)) r y (omega arith) iy' in
       inv ∙ (alike_more same_class [] (map class c.registers) (map class (take 8 (drop (8 * i) values))) r (simp length-map (omega arith)) (simp length-map (omega arith))
-      ∙ ap (λ z. z && alike same_class (drop (r + 1) (map class c.registers)) (drop (r + 1) (map class (take 8 (drop (8 * i) values))))) (sym (eb ∙ ap₂ same_class a d)))
+      ∙ ap (λ z. z && alike same_class (drop (r + 1) (map class c.registers)) (drop (r + 1) (map class (take 8 (drop (8 * i) values)))))
+      (ap (same_class (at (map class c.registers) r)) (sym d) ∙ (sym (same_at class c.registers r x y a (omega arith) ix h) ∙ ab)))
 
   pub alike_done : AlikeFrom 8 → alike same_class (map class c.registers) (map class (take 8 (drop (8 * i) values))) ≡ true
   unfolding here long

@@ -9,6 +9,16 @@ pub(crate) struct Configuration<V> {
     ghost eight: { length registers ≡ 8 },
 }
 
+impl<V> Configuration<V> {
+    // A configuration of this state and these registers.
+    pub(crate) fn new(state: u8, registers: [V; 8]) -> Configuration<V>
+        ensures state { result.state ≡ state }
+        ensures registers { result.registers ≡ registers }
+    {
+        Configuration { state, registers }
+    }
+}
+
 // A configuration, and its entry in the book.
 #[derive(Drop)]
 pub(crate) struct Entered<V> {

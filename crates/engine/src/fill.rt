@@ -145,8 +145,8 @@ fn step_statement<K: Kind>(
     };
     match attempt_statement::<K>(scene.events, t.events, &mut registers) {
         Outcome::Passes => {
-            let state = t.target;
-            land::<K>(grid, way.slot, from, &Configuration { state, registers })
+            let next = Configuration::new(t.target, registers);
+            land::<K>(grid, way.slot, from, &next)
         }
         Outcome::Fails => Ok(()),
         Outcome::Hangs => Ok(()),

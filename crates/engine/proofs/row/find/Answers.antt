@@ -1,7 +1,6 @@
-use Rattle.std.proofs.Common.{◌≡◌, true, false, get_or, sym, ap, ◌∙◌, subst, arith}
+use Rattle.std.proofs.Common.{◌≡◌, true, false, get_or, ap, subst, arith}
 use Rattle.engine.specs.Fronts.{stands_for}
 use Rattle.engine.proofs.Searches.{AlikeFrom, alike_step, alike_done, search_state, search_register, search_found, search_none}
-use Rattle.engine.proofs.Fits.{same_is}
 use Rattle.engine.proofs.row.find.Goals as goal
 
 pub configurations-preserved-then-s-c : goal.configurations-preserved-then-s-c
@@ -15,7 +14,7 @@ configurations-preserved g c =
     let x = get_or d.registers c.loop-r.r c.value-item.result in
     search_register g.K.Kind.class c.args.states.now c.args.values.now d c.configurations.i c.configurations-test.true c.requires c.configurations.invariant
     (alike_step g.K.Kind.class c.args.states.now c.args.values.now d c.configurations.i c.configurations-test.true c.requires
-    c.loop-r.r x c.index-values-i.result false (omega (arith, c.loop-r-test.true)) (ap (λ z. get_or d.registers c.loop-r.r z) c.value-item.is) c.index-values-i.is (sym c.if-not-same.true ∙ same_is _ _ _ c.same.ensures) c.loop-r.invariant)
+    c.loop-r.r x c.index-values-i.result c.same.result false (omega (arith, c.loop-r-test.true)) (ap (λ z. get_or d.registers c.loop-r.r z) c.value-item.is) c.index-values-i.is c.same.ensures c.if-not-same.true c.loop-r.invariant)
 
 pub loop-r-preserved : goal.loop-r-preserved
 loop-r-preserved g c =
@@ -23,7 +22,7 @@ loop-r-preserved g c =
     let eight = d.eight in
     let x = get_or d.registers c.loop-r.r c.value-item.result in
     alike_step g.K.Kind.class c.args.states.now c.args.values.now d c.configurations.i c.configurations-test.true c.requires
-    c.loop-r.r x c.index-values-i.result true (omega (arith, c.loop-r-test.true)) (ap (λ z. get_or d.registers c.loop-r.r z) c.value-item.is) c.index-values-i.is (sym c.if-not-same.false ∙ same_is _ _ _ c.same.ensures) c.loop-r.invariant
+    c.loop-r.r x c.index-values-i.result c.same.result true (omega (arith, c.loop-r-test.true)) (ap (λ z. get_or d.registers c.loop-r.r z) c.value-item.is) c.index-values-i.is c.same.ensures c.if-not-same.false c.loop-r.invariant
 
 pub returns-in-configurations : goal.returns-in-configurations
 returns-in-configurations g c =
