@@ -2,7 +2,7 @@
 ghost use Rattle.std.specs.Prelude.{◌≡◌, ℕ, ◌+◌, ◌*◌, ◌<◌, ◌≤◌, [], length, take, drop, slice_index, slice_index_or, vec_len};
 ghost use Rattle.topl.specs.Lists.{holds};
 ghost use Rattle.topl.specs.Runs.{alikeᶜ, first_configuration};
-ghost use Rattle.engine.specs.Fronts.{stands_for, row, stored, row_at, count_at, Arrives};
+ghost use Rattle.engine.specs.Fronts.{stands_for, row, stored, row_at, count_at, entries_at, Arrives};
 ghost use Rattle.engine.specs.Grids.{grid_of};
 
 use crate::configuration::{Configuration, Entered};
@@ -95,7 +95,8 @@ fn registers_at<K: Kind>(grid: &Grid<K::Value>, slot: Slot, i: usize) -> [K::Val
 pub(crate) fn entered_at<K: Kind>(grid: &Grid<K::Value>, slot: Slot, i: usize) -> Entered<K::Value>
     requires { i < count_at grid.now.front slot.at }
     ensures stands { stands_for K.Kind.class result.configuration ≡ slice_index_or (row_at K.Kind.class grid.now.cap (grid_of grid.now) slot.at) i (first_configuration []) }
-    ensures entry { result.entry ≡ slice_index grid.now.front.entries (64 * slot.at + i) }
+    ensures entry { result.entry ≡ slice_index (entries_at grid.now.front slot.at) i }
+    ensures known { result.entry < grid.now.book.used }
 {
     let mark = grid.front.mark_at(slot, i);
     let registers = registers_at::<K>(grid, slot, i);

@@ -94,42 +94,32 @@ module _ (w : World) (base from : ℕ) (c : Configuration) (t : ℕ × Statement
   pub calms_here : S.source ≡ c.state → (b : Bool) (mode : Mode) → w.mode ≡ mode → b ≡ calm mode (fares (matchers S) c.registers (drop from (drop base w.events))) → calms w (base + from) c t ≡ b
   calms_here n b mode m h = cond-true (eqb t.1.source c.state) (calm w.mode (outcome_of w (base + from) c t)) true (fits_state n) ∙ (ap₂ calm m fared ∙ sym h)
 
-  module _ (p : ℕ) where
-    pub lands_away : (S.source ≡ c.state → ⊥) → landed p (lands w (base + from) c t) ≡ []
-    lands_away n = ap (landed p) (cond-false (eqb t.1.source c.state) (landing_of (base + from) t (outcome_of w (base + from) c t)) [] (off n))
+-- what a statement brings from q to p
+module _ (w : World) (q : ℕ) (c : Configuration) (t : ℕ × Statement) (p : ℕ) where
+  pub lands_away : (t.1.source ≡ c.state → ⊥) → landed p (lands w q c t) ≡ []
+  lands_away n = ap (landed p) (cond-false (eqb t.1.source c.state) (landing_of q t (outcome_of w q c t)) [] (ne_eqb t.1.source c.state n))
 
-    pub lands_far : (base + from + span S ≡ p → ⊥) → landed p (lands w (base + from) c t) ≡ []
-    lands_far n = go (eqb t.1.source c.state) (outcome_of w (base + from) c t)
-      where
-        far : eqb (base + from + span t.1) p ≡ false
-        far = ne_eqb (base + from + span t.1) p (λ q. n (ap (λ z. base + from + span z) (sym e) ∙ q))
+  pub lands_far : (q + span t.1 ≡ p → ⊥) → landed p (lands w q c t) ≡ []
+  lands_far n = go (eqb t.1.source c.state) (outcome_of w q c t)
+    where
+      go : (b : Bool) (o : Outcome) → landed p (cond b (landing_of q t o) []) ≡ []
+      go false o = refl
+      go true (passes s) = cond-false _ _ _ (ne_eqb (q + span t.1) p n)
+      go true fails = refl
+      go true hangs = refl
 
-        go : (b : Bool) (o : Outcome) → landed p (cond b (landing_of (base + from) t o) []) ≡ []
-        go false o = refl
-        go true (passes s) = cond-false _ _ _ far
-        go true fails = refl
-        go true hangs = refl
+  pub lands_passes : t.1.source ≡ c.state → q + span t.1 ≡ p → (s : Registers) → passes s ≡ outcome_of w q c t → landed p (lands w q c t) ≡ record { state = t.1.target; registers = s } ∷ []
+  lands_passes n e s h =
+      ap (landed p) (cond-true (eqb t.1.source c.state) (landing_of q t (outcome_of w q c t)) [] (eq-eqb t.1.source c.state n) ∙ ap (landing_of q t) (sym h))
+      ∙ cond-true (eqb (q + span t.1) p) (record { state = t.1.target; registers = s } ∷ []) [] (eq-eqb (q + span t.1) p e)
 
-    pub lands_passes : S.source ≡ c.state → base + from + span S ≡ p → (s : Registers) → passes s ≡ fares (matchers S) c.registers (drop from (drop base w.events)) →
-        landed p (lands w (base + from) c t) ≡ record { state = S.target; registers = s } ∷ []
-    lands_passes n q s h =
-        let near : eqb (base + from + span t.1) p ≡ true = eq-eqb (base + from + span t.1) p (ap (λ z. base + from + span z) e ∙ q) in
-        ap (landed p) (cond-true (eqb t.1.source c.state) (landing_of (base + from) t (outcome_of w (base + from) c t)) [] (fits_state n) ∙ ap (landing_of (base + from) t) (fared ∙ sym h))
-        ∙ (cond-true (eqb (base + from + span t.1) p) (record { state = t.1.target; registers = s } ∷ []) [] near ∙ ap (λ z. record { state = z.target; registers = s } ∷ []) e)
-
-    pub lands_fails : fails ≡ fares (matchers S) c.registers (drop from (drop base w.events)) → landed p (lands w (base + from) c t) ≡ []
-    lands_fails h = go (eqb t.1.source c.state) (outcome_of w (base + from) c t) (fared ∙ sym h)
-      where
-        go : (b : Bool) (o : Outcome) → o ≡ fails → landed p (cond b (landing_of (base + from) t o) []) ≡ []
-        go false o i = refl
-        go true o i = ap (λ z. landed p (landing_of (base + from) t z)) i
-
-    pub lands_hangs : hangs ≡ fares (matchers S) c.registers (drop from (drop base w.events)) → landed p (lands w (base + from) c t) ≡ []
-    lands_hangs h = go (eqb t.1.source c.state) (outcome_of w (base + from) c t) (fared ∙ sym h)
-      where
-        go : (b : Bool) (o : Outcome) → o ≡ hangs → landed p (cond b (landing_of (base + from) t o) []) ≡ []
-        go false o i = refl
-        go true o i = ap (λ z. landed p (landing_of (base + from) t z)) i
+  -- where it does not pass
+  pub lands_not : landing_of q t (outcome_of w q c t) ≡ [] → landed p (lands w q c t) ≡ []
+  lands_not h = go (eqb t.1.source c.state)
+    where
+      go : (b : Bool) → landed p (cond b (landing_of q t (outcome_of w q c t)) []) ≡ []
+      go true = ap (landed p) h
+      go false = refl
 
 module _ (w : World) (p : ℕ) (c : Configuration) where
   passing_append : (ts us : List (ℕ × Statement)) → passing w p c (ts ++ us) ≡ passing w p c ts ++ passing w p c us
@@ -143,19 +133,14 @@ module _ (w : World) (p : ℕ) (c : Configuration) where
       ∙ (ap (λ z. any_error (landed q z)) (passing_append (take k ts) (drop k ts))
       ∙ (ap any_error (landed_append w p c q (passing w p c (take k ts)) (passing w p c (drop k ts))) ∙ error_early (landed q (passing w p c (take k ts))) (landed q (passing w p c (drop k ts))) h))
 
-module _ (P : Table) (w : World) (base from : ℕ) (c : Configuration) where
-  pub skips_late : length (drop base w.events) ≤ from → skips P w (base + from) c ≡ []
-  skips_late l =
-      let e : drop (base + from) w.events ≡ [] = sym (drop-drop from base w.events) ∙ drop_all from (drop base w.events) l in
-      ap (λ z. cond (has_come z && quiet w (base + from) c (numbered P)) ((0, suc (base + from), c) ∷ []) []) e
+module _ (P : Table) (w : World) (q : ℕ) (c : Configuration) where
+  pub skips_late : length w.events ≤ q → skips P w q c ≡ []
+  skips_late l = ap (λ z. cond (has_come z && quiet w q c (numbered P)) ((0, suc q, c) ∷ []) []) (drop_all q w.events l)
 
-  pub skips_here : from < length (drop base w.events) → true ≡ quiet w (base + from) c (numbered P) → (d : ℕ) → d ≡ 1 → landed (base + from + d) (skips P w (base + from) c) ≡ c ∷ []
-  skips_here l h d one =
-      let e : drop (base + from) w.events ≡ get_or (drop base w.events) from (record { id = 0; values = [] }) ∷ drop (from + 1) (drop base w.events) =
-      sym (drop-drop from base w.events) ∙ drop_more (drop base w.events) from (record { id = 0; values = [] }) l in
-      let q : eqb (suc (base + from)) (base + from + d) ≡ true = eq-eqb (suc (base + from)) (base + from + d) (omega arith) in
-      ap (λ z. landed (base + from + d) (cond (has_come z && quiet w (base + from) c (numbered P)) ((0, suc (base + from), c) ∷ []) [])) e
-      ∙ (ap (λ b. landed (base + from + d) (cond b ((0, suc (base + from), c) ∷ []) [])) (sym h) ∙ cond-true _ _ _ q)
+  pub skips_here : q < length w.events → quiet w q c (numbered P) ≡ true → (p : ℕ) → suc q ≡ p → landed p (skips P w q c) ≡ c ∷ []
+  skips_here l h p e =
+      ap (λ z. landed p (cond (has_come z && quiet w q c (numbered P)) ((0, suc q, c) ∷ []) [])) (drop_more w.events q (record { id = 0; values = [] }) l)
+      ∙ (ap (λ b. landed p (cond b ((0, suc q, c) ∷ []) [])) h ∙ cond-true _ _ _ (eq-eqb (suc q) p e))
 
 -- what one position more brings
 module _ (P : Table) (w : World) (row : ℕ → List Configuration) (p : ℕ) where
