@@ -75,24 +75,13 @@ module _ (w : World) (p : ℕ) (c : Configuration) where
       right true b e = e
       right false b e = refl
 
-module _ (w : World) (base from : ℕ) (c : Configuration) (t : ℕ × Statement) (S : Statement) (e : t.1 ≡ S) where
-  abbrev Fared : Outcome
-  Fared = fares (matchers S) c.registers (drop from (drop base w.events))
+-- does a statement let a skip from q go on
+module _ (w : World) (q : ℕ) (c : Configuration) (t : ℕ × Statement) where
+  pub calms_away : (t.1.source ≡ c.state → ⊥) → calms w q c t ≡ true
+  calms_away n = cond-false (eqb t.1.source c.state) (calm w.mode (outcome_of w q c t)) true (ne_eqb t.1.source c.state n)
 
-  pub fared : outcome_of w (base + from) c t ≡ fares (matchers S) c.registers (drop from (drop base w.events))
-  fared = ap (λ z. fares (matchers z) c.registers (drop (base + from) w.events)) e ∙ ap (fares (matchers S) c.registers) (sym (drop-drop from base w.events))
-
-  off : (S.source ≡ c.state → ⊥) → eqb t.1.source c.state ≡ false
-  off n = ne_eqb t.1.source c.state (λ q. n (ap (λ z. z.source) (sym e) ∙ q))
-
-  fits_state : S.source ≡ c.state → eqb t.1.source c.state ≡ true
-  fits_state n = eq-eqb t.1.source c.state (ap (λ z. z.source) e ∙ n)
-
-  pub calms_away : (S.source ≡ c.state → ⊥) → calms w (base + from) c t ≡ true
-  calms_away n = cond-false (eqb t.1.source c.state) (calm w.mode (outcome_of w (base + from) c t)) true (off n)
-
-  pub calms_here : S.source ≡ c.state → (b : Bool) (mode : Mode) → w.mode ≡ mode → b ≡ calm mode (fares (matchers S) c.registers (drop from (drop base w.events))) → calms w (base + from) c t ≡ b
-  calms_here n b mode m h = cond-true (eqb t.1.source c.state) (calm w.mode (outcome_of w (base + from) c t)) true (fits_state n) ∙ (ap₂ calm m fared ∙ sym h)
+  pub calms_here : t.1.source ≡ c.state → calms w q c t ≡ calm w.mode (outcome_of w q c t)
+  calms_here e = cond-true (eqb t.1.source c.state) (calm w.mode (outcome_of w q c t)) true (eq-eqb t.1.source c.state e)
 
 -- what a statement brings from q to p
 module _ (w : World) (q : ℕ) (c : Configuration) (t : ℕ × Statement) (p : ℕ) where

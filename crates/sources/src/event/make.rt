@@ -86,25 +86,30 @@ impl<V: Copy> Event<V> {
     }
 
     // What stands at one of the six places: 0 has the returned value, 1 to 5 the parameters; `nothing` where none was given.
-    #[tactic(auto, using(crate::proofs::Places::at_index, crate::proofs::Places::no_index))]
     pub fn place(&self, nothing: V, place: usize) -> V
         ensures { result ≡ slice_index_or (places nothing (says self.now)) place nothing }
     {
-        // Kept a match: through `and_then` the goal `returns` stays open.
-        match self.index_at(place) {
-            Some(i) => self.values().get(i).copied().unwrap_or(nothing),
-            None => nothing,
-        }
+        place_of(nothing, self.id, self.values(), place)
     }
+}
 
-    // Which value stands at a place: a return has its value at 0, and a call its first at 1.
-    fn index_at(&self, place: usize) -> Option<usize>
-        ensures { result ≡ index_at (is_return (says self.now).id) place }
-    {
-        if self.is_return() {
-            Some(place)
-        } else {
-            place.checked_sub(1)
-        }
+// What stands at one of the six places of an event of an id with some values; `nothing` where none was given.
+pub fn place_of<V: Copy>(nothing: V, id: u32, values: &[V], place: usize) -> V
+    ensures { result ≡ slice_index_or (places nothing (record { id = id; values = values.now })) place nothing }
+{
+    index_at(id, place)
+        .and_then(|i| values.get(i))
+        .copied()
+        .unwrap_or(nothing)
+}
+
+// Which value stands at a place: a return has its value at 0, and a call its first at 1.
+fn index_at(id: u32, place: usize) -> Option<usize>
+    ensures { result ≡ index_at (is_return id) place }
+{
+    if id % 2 == 1 {
+        Some(place)
+    } else {
+        place.checked_sub(1)
     }
 }
