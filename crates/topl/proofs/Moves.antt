@@ -115,12 +115,11 @@ module _ (w : World) (p : ℕ) (c : Configuration) where
   passing_append [] us = refl
   passing_append (t ∷ ts) us = ap (λ z. lands w p c t ++ z) (passing_append ts us) ∙ sym (append_assoc (lands w p c t) (passing w p c ts) (passing w p c us))
 
-  -- an error among the first ones is one among all
-  pub passing_front : (q k : ℕ) (ts : List (ℕ × Statement)) → any_error (landed q (passing w p c (take k ts))) ≡ true → any_error (landed q (passing w p c ts)) ≡ true
-  passing_front q k ts h =
-      ap (λ z. any_error (landed q (passing w p c z))) (sym (take-append-drop k ts))
-      ∙ (ap (λ z. any_error (landed q z)) (passing_append (take k ts) (drop k ts))
-      ∙ (ap any_error (landed_append w p c q (passing w p c (take k ts)) (passing w p c (drop k ts))) ∙ error_early (landed q (passing w p c (take k ts))) (landed q (passing w p c (drop k ts))) h))
+  -- the first statements, and the rest
+  pub passing_split : (q k : ℕ) (ts : List (ℕ × Statement)) → landed q (passing w p c ts) ≡ landed q (passing w p c (take k ts)) ++ landed q (passing w p c (drop k ts))
+  passing_split q k ts =
+      ap (λ z. landed q (passing w p c z)) (sym (take-append-drop k ts))
+      ∙ (ap (landed q) (passing_append (take k ts) (drop k ts)) ∙ landed_append w p c q (passing w p c (take k ts)) (passing w p c (drop k ts)))
 
 module _ (P : Table) (w : World) (q : ℕ) (c : Configuration) where
   pub skips_late : length w.events ≤ q → skips P w q c ≡ []
