@@ -1,19 +1,22 @@
 -- What the moves from a configuration bring, statement by statement.
-use Rattle.std.proofs.Common.{◌≡◌, ℕ, ◌+◌, ◌<◌, ◌≤◌, List, ◌++◌, length, get_or, take, drop, Ok, Err, Result, vec_items, sym, ap, ◌∙◌, subst, append_assoc}
-use Rattle.std.proofs.lemmas.List.{take_all}
-use Rattle.topl.specs.Lists.{Class, ◌∈◌}
+use Rattle.std.proofs.Common.{◌≡◌, ℕ, ◌+◌, ◌<◌, ◌≤◌, List, [], ◌++◌, length, get_or, take, drop, Ok, Err, Result, vec_items, sym, ap, ◌∙◌, subst, append_assoc, arith}
+use Rattle.std.proofs.lemmas.List.{take_all, take-append-drop}
+use Rattle.topl.specs.Lists.{Class, ◌∈◌, each}
 use Rattle.topl.specs.Table as T
-use Rattle.topl.specs.Runs.{Configuration, Reach, Registers, World, lands, moves, passing, skips}
+use Rattle.topl.specs.Runs.{Configuration, Reach, Registers, World, first_configuration, lands, moves, passing, skips}
 use Rattle.topl.specs.Rows.{landed}
 use Rattle.topl.specs.Deciding.{any_error}
-use Rattle.topl.proofs.Loops.{error_early}
+use Rattle.topl.proofs.Loops.{each_append, each_more, error_early}
 use Rattle.topl.proofs.Moves.{landed_append, passing_more, passing_split}
 use Rattle.engine.specs.declared.entry.Entry.{Entry}
 use Rattle.engine.specs.declared.grid.Grid as G
 use Rattle.engine.specs.Trails.{steps_to}
-use Rattle.engine.specs.Fills.{Brings}
+use Rattle.engine.specs.Fronts.{row_at, count_at, entries_at}
+use Rattle.engine.specs.Grids.{grid_of}
+use Rattle.engine.specs.Fills.{Safe, Tracks, Brings}
 use Rattle.engine.proofs.Tables.{get_or-∈}
-use Rattle.engine.proofs.Fills.{brings_on}
+use Rattle.engine.proofs.Fronts.{length_row_at}
+use Rattle.engine.proofs.Fills.{brings_on, tracks_kept, entered_reach}
 
 module _ (P : T.Table) (w : World) (q : ℕ) (d : Configuration) (p : ℕ) where
   -- what the skip and the first statements bring to p
@@ -48,3 +51,42 @@ module _ (P : T.Table) (w : World) (q : ℕ) (d : Configuration) (p : ℕ) where
     -- an error among the first is one among all
     pub steps_error : (j : G.Grid V) (i : ℕ) (x : Entry) → Brings class slot P k w p g j (brought_by i) (Err x) → Brings class slot P k w p g j (landed p (moves P w q d)) (Err x)
     steps_error j i x A = (ap any_error (rest i) ∙ error_early (brought_by i) (landed p (passing w q d (drop i (T.numbered P)))) A.0, A.1)
+
+-- what the moves from the configurations of a position bring, one by one
+module _ (P : T.Table) (w : World) (q p : ℕ) {V : Type 0} (class : V → Class) (g : G.Grid V) (source : ℕ) where
+  -- what the first of them bring to p
+  abbrev pub brought_from : ℕ → List Configuration
+  brought_from i = each (λ c. landed p (moves P w q c)) (take i (row_at class g.cap (grid_of g) source))
+
+  module _ (slot : ℕ) (k : Registers) (five : source < 5) where
+    -- one configuration more, as it is read with its entry
+    pub row_more : (h j : G.Grid V) → Safe slot g h (Ok tt) → (source ≡ slot → ⊥) → (i at : ℕ) → at ≡ source → (d : Configuration) (n : ℕ) (r : Result (Unit {0}) Entry) → i < count_at g.front at →
+        d ≡ get_or (row_at class h.cap (grid_of h) at) i (first_configuration []) → n ≡ get_or (entries_at h.front at) i 0 → Tracks class P k w q g source →
+        Brings class slot P k w p g h (brought_from i) (Ok tt) → (Reach P k w q d (steps_to (vec_items h.book.entries) n) → Brings class slot P k w p h j (landed p (moves P w q d)) r) → Brings class slot P k w p g j (brought_from (i + 1)) r
+    row_more h j S ne i at e d n r l ed en T A step =
+        let F : Configuration → List Configuration = λ c. landed p (moves P w q c) in
+        let row = row_at class g.cap (grid_of g) source in
+        let l' : i < count_at g.front source = subst (λ (z : ℕ). i < count_at g.front z) e l in
+        let ed' = ed ∙ ap (λ (z : ℕ). get_or (row_at class h.cap (grid_of h) z) i (first_configuration [])) e in
+        let en' = en ∙ ap (λ (z : ℕ). get_or (entries_at h.front z) i 0) e in
+        let same = A.1.other source five ne in
+        let spared = S.spares source ne in
+        let t = tracks_kept class P k w q g h source five S.cap same spared A.1.kept T in
+        let R = entered_reach class P k w q h source i d n (let z = spared.0 in omega arith) ed' en' t in
+        let x : d ≡ get_or row i (first_configuration []) = ed' ∙ (ap (λ (z : ℕ). get_or (row_at class z (grid_of h) source) i (first_configuration [])) S.cap ∙ ap (λ z. get_or z i (first_configuration [])) same) in
+        let m = length_row_at class g.cap source (grid_of g) five g.room in
+        let f : brought_from (i + 1) ≡ brought_from i ++ F d = each_more F row i (first_configuration []) (omega arith) ∙ ap (λ z. brought_from i ++ F z) (sym x) in
+        subst (λ z. Brings class slot P k w p g j z r) (sym f) (brings_on class slot P k w p g h j S.cap (brought_from i) (F d) r A (step R))
+
+    -- all of them
+    pub row_end : (j : G.Grid V) (i : ℕ) → count_at g.front source ≤ i → Brings class slot P k w p g j (brought_from i) (Ok tt) → Brings class slot P k w p g j (each (λ c. landed p (moves P w q c)) (row_at class g.cap (grid_of g) source)) (Ok tt)
+    row_end j i l A =
+        let m = length_row_at class g.cap source (grid_of g) five g.room in
+        subst (λ z. Brings class slot P k w p g j (each (λ c. landed p (moves P w q c)) z) (Ok tt)) (take_all i (row_at class g.cap (grid_of g) source) (omega arith)) A
+
+    -- an error among what the first bring is one among all
+    pub row_error : (j : G.Grid V) (i : ℕ) (x : Entry) → Brings class slot P k w p g j (brought_from i) (Err x) → Brings class slot P k w p g j (each (λ c. landed p (moves P w q c)) (row_at class g.cap (grid_of g) source)) (Err x)
+    row_error j i x A =
+        let F : Configuration → List Configuration = λ c. landed p (moves P w q c) in
+        let row = row_at class g.cap (grid_of g) source in
+        (ap (λ z. any_error (each F z)) (sym (take-append-drop i row)) ∙ (ap any_error (each_append F (take i row) (drop i row)) ∙ error_early (each F (take i row)) (each F (drop i row)) A.0), A.1)
