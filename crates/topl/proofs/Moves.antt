@@ -1,13 +1,13 @@
 -- The moves out of a configuration, statement by statement, and what they bring to a position: the laws of the loops that make them.
-use Rattle.std.proofs.Common.{◌≡◌, ℕ, zero, suc, ◌+◌, ◌<◌, ◌≤◌, Bool, true, false, cond, ◌&&◌, eqb, List, [], ◌∷◌, ◌++◌, length, get_or, take, drop, sym, refl, ap, ◌∙◌, ap₂, append_assoc, arith}
+use Rattle.std.proofs.Common.{◌≡◌, ℕ, zero, suc, ◌+◌, ◌<◌, ◌≤◌, Bool, true, false, cond, ◌&&◌, ◌||◌, eqb, List, [], ◌∷◌, ◌++◌, length, get_or, take, drop, sym, refl, ap, ◌∙◌, ap₂, true≢false, append_assoc, arith}
 use Rattle.std.proofs.lemmas.List.{append-nil, take_more, drop-drop, drop_more, drop_all, take-append-drop}
 use Rattle.std.proofs.lemmas.Bool.{and_left, cond-true, cond-false, eq-eqb, ne_eqb}
 use Rattle.topl.specs.Lists.{each}
-use Rattle.topl.specs.Table.{Statement, Table, count_from, implied, matchers, numbered, span}
+use Rattle.topl.specs.Table.{Statement, Table, count_from, error, implied, numbered, span}
 use Rattle.topl.specs.Runs.{Configuration, Landing, Mode, Outcome, Registers, World, calm, calms, fails, fares, hangs, has_come, landing_of, lands, moves, outcome_of, passes, passing, quiet, skips}
 use Rattle.topl.specs.Rows.{incoming, landed}
 use Rattle.topl.specs.Deciding.{any_error}
-use Rattle.topl.proofs.Loops.{error_early, error_late}
+use Rattle.topl.proofs.Loops.{error_early}
 
 length_count : (n : ℕ) (ts : List Statement) → length (count_from n ts) ≡ suc (length ts)
 length_count n [] = refl
@@ -130,6 +130,14 @@ module _ (P : Table) (w : World) (q : ℕ) (c : Configuration) where
       ap (λ z. landed p (cond (has_come z && quiet w q c (numbered P)) ((0, suc q, c) ∷ []) [])) (drop_more w.events q (record { id = 0; values = [] }) l)
       ∙ (ap (λ b. landed p (cond b ((0, suc q, c) ∷ []) [])) h ∙ cond-true _ _ _ (eq-eqb (suc q) p e))
 
+error_behind : (xs ys zs : List Configuration) → (any_error ys ≡ true → any_error zs ≡ true) → any_error (xs ++ ys) ≡ true → any_error (xs ++ zs) ≡ true
+error_behind [] ys zs f h = f h
+error_behind (x ∷ xs) ys zs f h = go (eqb x.state error) h
+  where
+    go : (b : Bool) → (b || any_error (xs ++ ys)) ≡ true → (b || any_error (xs ++ zs)) ≡ true
+    go true e = refl
+    go false e = error_behind xs ys zs f e
+
 -- what one position more brings
 module _ (P : Table) (w : World) (row : ℕ → List Configuration) (p : ℕ) where
   pub incoming_more : (b n q m : ℕ) → b + n ≡ q → m ≡ n + 1 → incoming P w row p b m ≡ incoming P w row p b n ++ each (λ c. landed p (moves P w q c)) (row q)
@@ -142,14 +150,9 @@ module _ (P : Table) (w : World) (row : ℕ → List Configuration) (p : ℕ) wh
       ap (incoming P w row p b) h ∙ (ap (λ z. each (λ c. landed p (moves P w b c)) (row b) ++ z) (incoming_more (suc b) n q (n + 1) (omega arith) refl)
       ∙ sym (append_assoc (each (λ c. landed p (moves P w b c)) (row b)) (incoming P w row p (suc b) n) (each (λ c. landed p (moves P w q c)) (row q))))
 
-  -- an error from one position is one from all
-  pub incoming_error : (b n q k : ℕ) → b + k ≡ q → k < n → any_error (each (λ c. landed p (moves P w q c)) (row q)) ≡ true → any_error (incoming P w row p b n) ≡ true
-  incoming_error b zero q k e l h = absurd (omega arith)
-  incoming_error b (suc n) q zero e l h =
-      let g : q ≡ b = omega arith in
-      error_early (each (λ c. landed p (moves P w b c)) (row b)) (incoming P w row p (suc b) n) (ap (λ (z : ℕ). any_error (each (λ c. landed p (moves P w z c)) (row z))) (sym g) ∙ h)
-  incoming_error b (suc n) q (suc k) e l h = error_late (each (λ c. landed p (moves P w b c)) (row b)) (incoming P w row p (suc b) n) (incoming_error (suc b) n q k (omega arith) (omega arith) h)
-
-pub each_same : (P : Table) (w : World) {a a' b b' : ℕ} {r r' : List Configuration} → a ≡ a' → b ≡ b' → r ≡ r' → each (λ c. landed a (moves P w b c)) r ≡ each (λ c. landed a' (moves P w b' c)) r'
-each_same P w {a} {a'} {b} {b'} {r} {r'} e f g =
-    ap (λ (z : ℕ). each (λ c. landed z (moves P w b c)) r) e ∙ (ap (λ (z : ℕ). each (λ c. landed a' (moves P w z c)) r) f ∙ ap (each (λ c. landed a' (moves P w b' c))) g)
+  -- an error from the first positions is one from more of them
+  pub incoming_front : (b n m : ℕ) → m ≤ n → any_error (incoming P w row p b m) ≡ true → any_error (incoming P w row p b n) ≡ true
+  incoming_front b zero zero l h = h
+  incoming_front b (suc n) zero l h = absurd (true≢false (sym h))
+  incoming_front b zero (suc m) l h = absurd (omega arith)
+  incoming_front b (suc n) (suc m) l h = error_behind (each (λ c. landed p (moves P w b c)) (row b)) (incoming P w row p (suc b) m) (incoming P w row p (suc b) n) (incoming_front (suc b) n m (omega arith)) h
