@@ -82,8 +82,8 @@ module _ {V : Type 0} (class : V → Class) (cap : ℕ) (F G : Front) (rows regi
           subst (λ x. Reach P k (so_far []) 0 x (steps_to es (get_or (entries_at G 0) i 0))) (sym d) (subst (Reach P k (so_far []) 0 (first_configuration k)) (sym s) at_start)
 
 -- a configuration in `start` was added to a bare front, at position 0, and its registers written to the board v
-module _ {V Z : Type 0} (class : V → Class) (cap : ℕ) (F G : Front) (at at' : ℕ) (v : Vec V Z) (lent back registers : List V) (es : List Entry) (used : ℕ) (zero_at : at ≡ 0) (zero_at' : at' ≡ 0) (B : Bare F) (A : Added F G at 0 0)
-    (is : lent ≡ vec_items v) (put : back ≡ stored lent (at' * (8 * cap) + 8 * 0) registers) (some : 1 ≤ cap) (few : cap ≤ 64) (long : 40 * cap ≤ vec_len v) (eight : length registers ≡ 8) (one : used ≡ 1) where
+module _ {V Z : Type 0} (class : V → Class) (cap : ℕ) (F G : Front) (at : ℕ) (v : Vec V Z) (lent back registers : List V) (es : List Entry) (used : ℕ) (zero_at : at ≡ 0) (B : Bare F) (A : Added F G at 0 0)
+    (is : lent ≡ vec_items v) (put : back ≡ stored lent (at * (8 * cap) + 8 * 0) registers) (some : 1 ≤ cap) (few : cap ≤ 64) (long : 40 * cap ≤ vec_len v) (eight : length registers ≡ 8) (one : used ≡ 1) where
   abbrev pub opened : Grid V
   opened = grid G (vec_items (with_items v back)) es used
 
@@ -94,7 +94,7 @@ module _ {V Z : Type 0} (class : V → Class) (cap : ℕ) (F G : Front) (at at' 
   long' = let a = v.ok.0 in omega arith
 
   board : vec_items (with_items v back) ≡ paste (vec_items v) (0 * (8 * cap) + 8 * 0) registers 8
-  board = let l = long' in board_put v lent back registers (0 * (8 * cap) + 8 * 0) is (subst (λ (k : ℕ). back ≡ stored lent (k * (8 * cap) + 8 * 0) registers) zero_at' put) (omega arith) eight
+  board = let l = long' in board_put v lent back registers (0 * (8 * cap) + 8 * 0) is (subst (λ (k : ℕ). back ≡ stored lent (k * (8 * cap) + 8 * 0) registers) zero_at put) (omega arith) eight
 
   pub opened_room : Room cap opened
   opened_room = first_room class cap F G (vec_items v) registers es used B first few some long' eight (omega (arith, one)) _ board

@@ -1,6 +1,6 @@
 -- The matchers of a statement.
-use Rattle.std.proofs.Common.{◌≡◌, ℕ, ◌+◌, ◌<◌, ◌≤◌, List, [], ◌∷◌, map, length, get_or, drop, sym, ap, ◌∙◌, arith}
-use Rattle.std.proofs.lemmas.List.{get_or-map, drop_more, length-map, drop_all}
+use Rattle.std.proofs.Common.{◌≡◌, ℕ, ◌+◌, ◌<◌, ◌≤◌, List, ◌∷◌, map, length, get_or, drop, sym, ap, ◌∙◌, arith}
+use Rattle.std.proofs.lemmas.List.{get_or-map, drop_more, length-map}
 use Rattle.topl.specs.Table as T
 use Rattle.engine.specs.declared.table.Matcher as M
 use Rattle.engine.specs.Views.{matcher, over}
@@ -10,9 +10,6 @@ pub matchers_more : (ms : List M.Matcher) (j : ℕ) (m : M.Matcher) → j < leng
 matchers_more ms j m l e =
     let n : j < length (map matcher ms) = let z = length-map ms matcher in omega arith in
     drop_more (map matcher ms) j T.any_event n ∙ ap (λ x. x ∷ drop (j + 1) (map matcher ms)) (get_or-map matcher ms j m T.any_event l ∙ ap matcher (sym e))
-
-pub matchers_all : (ms : List M.Matcher) (j : ℕ) → length ms ≤ j → drop j (map matcher ms) ≡ []
-matchers_all ms j l = drop_all j (map matcher ms) (let z = length-map ms matcher in omega arith)
 
 -- a statement over at least one event has them all
 module _ (source target : ℕ) (ms : List M.Matcher) (some : 1 ≤ length ms) where

@@ -1,19 +1,23 @@
 -- What the moves from a configuration bring, statement by statement.
-use Rattle.std.proofs.Common.{◌≡◌, ℕ, ◌+◌, ◌<◌, ◌≤◌, List, [], ◌++◌, length, get_or, take, drop, Ok, Err, Result, vec_items, sym, ap, ◌∙◌, subst, append_assoc, arith}
-use Rattle.std.proofs.lemmas.List.{take_all, take-append-drop}
+use Rattle.std.proofs.Common.{◌≡◌, ℕ, ◌+◌, ◌-◌, ◌%◌, ◌<◌, ◌≤◌, List, [], ◌++◌, map, length, get_or, take, drop, Ok, Err, Result, vec_items, sym, ap, ◌∙◌, subst, append_assoc, arith}
+use Rattle.std.proofs.lemmas.List.{drop-drop, take_all, take-append-drop}
 use Rattle.topl.specs.Lists.{Class, ◌∈◌, each}
 use Rattle.topl.specs.Table as T
 use Rattle.topl.specs.Runs.{Configuration, Reach, Registers, World, first_configuration, lands, moves, passing, skips}
-use Rattle.topl.specs.Rows.{landed}
+use Rattle.topl.specs.Rows.{incoming, landed}
 use Rattle.topl.specs.Deciding.{any_error}
 use Rattle.topl.proofs.Loops.{each_append, each_more, error_early}
-use Rattle.topl.proofs.Moves.{landed_append, passing_more, passing_split}
+use Rattle.topl.proofs.Moves.{each_same, incoming_front, incoming_more, landed_append, passing_more, passing_split}
 use Rattle.engine.specs.declared.entry.Entry.{Entry}
 use Rattle.engine.specs.declared.grid.Grid as G
+use Rattle.engine.specs.declared.scene.Scene.{Scene}
+use Rattle.engine.specs.Modes.{mode_of}
+use Rattle.engine.specs.Views.{statement, Seen}
 use Rattle.engine.specs.Trails.{steps_to}
 use Rattle.engine.specs.Fronts.{row_at, count_at, entries_at}
 use Rattle.engine.specs.Grids.{grid_of}
-use Rattle.engine.specs.Fills.{Safe, Tracks, Brings}
+use Rattle.engine.specs.Fills.{Watched, Safe, Tracks, Brings}
+use Rattle.engine.proofs.Windows.{seen_drop}
 use Rattle.engine.proofs.Tables.{get_or-∈}
 use Rattle.engine.proofs.Fronts.{length_row_at}
 use Rattle.engine.proofs.Fills.{brings_on, tracks_kept, entered_reach}
@@ -90,3 +94,42 @@ module _ (P : T.Table) (w : World) (q p : ℕ) {V : Type 0} (class : V → Class
         let F : Configuration → List Configuration = λ c. landed p (moves P w q c) in
         let row = row_at class g.cap (grid_of g) source in
         (ap (λ z. any_error (each F z)) (sym (take-append-drop i row)) ∙ (ap any_error (each_append F (take i row) (drop i row)) ∙ error_early (each F (take i row)) (each F (drop i row)) A.0), A.1)
+
+-- a scene from a later position on
+pub watched_past : {V : Type 0} (class : V → Class) (s t : Scene V) (P : T.Table) (w : World) (n : ℕ) → t.statements.now ≡ s.statements.now → t.base ≡ s.base + n → t.events.now ≡ drop n s.events.now → t.mode ≡ s.mode →
+    Watched class s P w → Watched class t P w
+watched_past class s t P w n es eb ev em W = record {
+  statements = W.statements ∙ ap (map statement) (sym es);
+  mode = W.mode ∙ ap mode_of (sym em);
+  events = subst (λ z. Seen class z (drop t.base w.events)) (sym ev)
+      (subst (Seen class (drop n s.events.now)) (drop-drop n s.base w.events ∙ ap (λ (z : ℕ). drop z w.events) (sym eb)) (seen_drop class n s.events.now (drop s.base w.events) W.events));
+}
+
+-- what the moves from earlier positions bring to p, position by position
+module _ (P : T.Table) (w : World) (base p : ℕ) {V : Type 0} (class : V → Class) (g : G.Grid V) where
+  -- what comes from the positions before q
+  abbrev pub brought_to : ℕ → List Configuration
+  brought_to q = incoming P w (λ q. row_at class g.cap (grid_of g) (q % 5)) p base (q - base)
+
+  module _ (k : Registers) where
+    -- one position more, over n events
+    pub rows_more : (h j : G.Grid V) → Safe (p % 5) g h (Ok tt) → (q : ℕ) → base ≤ q → q < p → p ≤ base + 4 → (b n slot : ℕ) → b ≡ q → b + n ≡ p → slot ≡ p % 5 → (r : Result (Unit {0}) Entry) → Tracks class P k w q g (q % 5) →
+        Brings class (p % 5) P k w p g h (brought_to q) (Ok tt) →
+        (Tracks class P k w b h (b % 5) → Brings class slot P k w (b + n) h j (each (λ c. landed (b + n) (moves P w b c)) (row_at class h.cap (grid_of h) (b % 5))) r) → Brings class (p % 5) P k w p g j (brought_to (q + 1)) r
+    rows_more h j S q low l near b n slot eb en es r T A step =
+        let row : ℕ → List Configuration = λ q. row_at class g.cap (grid_of g) (q % 5) in
+        let five : q % 5 < 5 = omega arith in
+        let ne : q % 5 ≡ p % 5 → ⊥ = λ z. omega arith in
+        let same = A.1.other (q % 5) five ne in
+        let t = tracks_kept class P k w q g h (q % 5) five S.cap same (S.spares (q % 5) ne) A.1.kept T in
+        let B = step (subst (λ (z : ℕ). Tracks class P k w z h (z % 5)) (sym eb) t) in
+        let now : row_at class h.cap (grid_of h) (b % 5) ≡ row q = ap (λ (z : ℕ). row_at class h.cap (grid_of h) (z % 5)) eb ∙ (ap (λ (z : ℕ). row_at class z (grid_of h) (q % 5)) S.cap ∙ same) in
+        let B₁ = subst (λ z. Brings class slot P k w (b + n) h j z r) (each_same P w en eb now) B in
+        let B₂ = subst (λ (z : ℕ). Brings class slot P k w z h j (each (λ c. landed p (moves P w q c)) (row q)) r) en B₁ in
+        let B₃ = subst (λ (z : ℕ). Brings class z P k w p h j (each (λ c. landed p (moves P w q c)) (row q)) r) es B₂ in
+        subst (λ z. Brings class (p % 5) P k w p g j z r) (sym (incoming_more P w row p base (q - base) q (q + 1 - base) (omega arith) (omega arith)))
+        (brings_on class (p % 5) P k w p g h j S.cap (brought_to q) (each (λ c. landed p (moves P w q c)) (row q)) r A B₃)
+
+    -- an error from the first is one from all
+    pub rows_error : (j : G.Grid V) (q : ℕ) (x : Entry) → q ≤ p → Brings class (p % 5) P k w p g j (brought_to q) (Err x) → Brings class (p % 5) P k w p g j (brought_to p) (Err x)
+    rows_error j q x l A = (incoming_front P w (λ q. row_at class g.cap (grid_of g) (q % 5)) p base (p - base) (q - base) (omega arith) A.0, A.1)

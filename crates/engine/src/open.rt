@@ -42,11 +42,12 @@ pub(crate) fn open_rows<K: Kind>(
     ensures follows { (P : TheTable) → P.constants ≡ map number constants.now → Follows K.Kind.class s.new P (initial P (map K.Kind.class values.now)) [] }
 {
     let registers = start_registers::<K>(constants, values);
+    let slot = Slot::of(0);
     s.window.seen = 0;
     let grid = &mut s.grid;
     grid.cap = cap;
     grid.front = Front::new();
-    grid.front.add(Slot::of(0), START, 0);
+    grid.front.add(slot, START, 0);
     grid.book.begin();
-    put_configuration(&mut grid.board, cap, Slot::of(0), 0, &registers);
+    put_configuration(&mut grid.board, cap, slot, 0, &registers);
 }

@@ -1,5 +1,5 @@
-use Rattle.std.proofs.Common.{map, sym, ◌∙◌, arith, rules}
-use Rattle.engine.proofs.Attempts.{fares_done, fares_short, fares_not, fares_more}
+use Rattle.std.proofs.Common.{map, sym, ◌∙◌, rules}
+use Rattle.engine.proofs.Attempts.{fares_short, fares_not, fares_more}
 use Rattle.engine.proofs.attempt.attempt_statement.Goals as goal
 
 pub returns-in_default : goal.returns-in_default

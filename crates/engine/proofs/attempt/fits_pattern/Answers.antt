@@ -1,6 +1,4 @@
-use Rattle.std.proofs.Common.{◌<◌, not, length, get_or, ap, ◌∙◌, rules}
-use Rattle.topl.specs.Lists.{same_class}
-use Rattle.topl.specs.Table.{at}
+use Rattle.std.proofs.Common.{not, get_or, ap, rules}
 use Rattle.engine.proofs.Fits.{same_at}
 use Rattle.engine.proofs.attempt.fits_pattern.Goals as goal
 

@@ -10,8 +10,10 @@ invariant_of-grid g c =
     let cap = c.args.cap in
     let b = c.begin.new.self in
     let one : b.used ≡ 1 = omega (arith, c.begin.ensures.used, c.requires.4) in
-    record { room = opened_room class cap c.new-grid.result c.add.new.self c.of.result.at c.of-2.result.at s.board c.deref_mut.result.now c.put_configuration.new.rows c.start_registers-registers.result (vec_items b.entries) b.used c.of.ensures c.of-2.ensures c.new-grid.ensures c.add.ensures
-    c.deref_mut.ensures.value c.put_configuration.ensures c.requires.1 c.requires.2 c.requires.3 c.start_registers-registers.ensures.eight one }
+    record {
+      room = opened_room class cap c.new-grid.result c.add.new.self c.of-slot.result.at s.board c.deref_mut.result.now c.put_configuration.new.rows c.start_registers-registers.result (vec_items b.entries) b.used c.of-slot.ensures c.new-grid.ensures c.add.ensures
+          c.deref_mut.ensures.value c.put_configuration.ensures c.requires.1 c.requires.2 c.requires.3 c.start_registers-registers.ensures.eight one;
+    }
 
 pub returns-clause-follows : goal.returns-clause-follows
 returns-clause-follows g c P e =
@@ -22,5 +24,5 @@ returns-clause-follows g c P e =
     let one : b.used ≡ 1 = omega (arith, c.begin.ensures.used, c.requires.4) in
     let k = initial P (map class c.args.values.now) in
     let is : map class c.start_registers-registers.result ≡ k = c.start_registers-registers.ensures.are ∙ ap (λ z. sets (replicate 8 []) z (map class c.args.values.now)) (sym e) in
-    let h = opened_follows class cap c.new-grid.result c.add.new.self c.of.result.at c.of-2.result.at s.board c.deref_mut.result.now c.put_configuration.new.rows c.start_registers-registers.result (vec_items b.entries) b.used c.of.ensures c.of-2.ensures c.new-grid.ensures c.add.ensures
+    let h = opened_follows class cap c.new-grid.result c.add.new.self c.of-slot.result.at s.board c.deref_mut.result.now c.put_configuration.new.rows c.start_registers-registers.result (vec_items b.entries) b.used c.of-slot.ensures c.new-grid.ensures c.add.ensures
     c.deref_mut.ensures.value c.put_configuration.ensures c.requires.1 c.requires.2 c.requires.3 c.start_registers-registers.ensures.eight one P k is in record { held = λ q l. h.0 q; tracked = λ q l. h.1 q; total = h.2; window = tt }

@@ -1,4 +1,4 @@
-use Rattle.std.proofs.Common.{◌≡◌, ℕ, ◌+◌, [], ◌∷◌, map, length, replicate, drop, set, sym, ap, ◌∙◌, subst, rules, length-set, length-append}
+use Rattle.std.proofs.Common.{◌≡◌, [], ◌∷◌, map, length, replicate, drop, set, sym, ◌∙◌, subst, rules, length-set, length-append}
 use Rattle.std.proofs.lemmas.Slice.Zip.{zip_turn}
 use Rattle.topl.specs.Ledger.{sets}
 use Rattle.engine.specs.Views.{number}
