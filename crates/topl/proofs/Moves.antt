@@ -132,11 +132,11 @@ module _ (P : Table) (w : World) (q : ℕ) (c : Configuration) where
 
 error_behind : (xs ys zs : List Configuration) → (any_error ys ≡ true → any_error zs ≡ true) → any_error (xs ++ ys) ≡ true → any_error (xs ++ zs) ≡ true
 error_behind [] ys zs f h = f h
-error_behind (x ∷ xs) ys zs f h = go (eqb x.state error) h
+error_behind (x ∷ xs) ys zs f h = go (eqb x.state error) (error_behind xs ys zs f) h
   where
-    go : (b : Bool) → (b || any_error (xs ++ ys)) ≡ true → (b || any_error (xs ++ zs)) ≡ true
-    go true e = refl
-    go false e = error_behind xs ys zs f e
+    go : (b : Bool) → (any_error (xs ++ ys) ≡ true → any_error (xs ++ zs) ≡ true) → (b || any_error (xs ++ ys)) ≡ true → (b || any_error (xs ++ zs)) ≡ true
+    go true i e = refl
+    go false i e = i e
 
 -- what one position more brings
 module _ (P : Table) (w : World) (row : ℕ → List Configuration) (p : ℕ) where
@@ -156,3 +156,7 @@ module _ (P : Table) (w : World) (row : ℕ → List Configuration) (p : ℕ) wh
   incoming_front b (suc n) zero l h = absurd (true≢false (sym h))
   incoming_front b zero (suc m) l h = absurd (omega arith)
   incoming_front b (suc n) (suc m) l h = error_behind (each (λ c. landed p (moves P w b c)) (row b)) (incoming P w row p (suc b) m) (incoming P w row p (suc b) n) (incoming_front (suc b) n m (omega arith)) h
+
+pub each_same : (P : Table) (w : World) {a a' b b' : ℕ} {r r' : List Configuration} → a ≡ a' → b ≡ b' → r ≡ r' → each (λ c. landed a (moves P w b c)) r ≡ each (λ c. landed a' (moves P w b' c)) r'
+each_same P w {a} {a'} {b} {b'} {r} {r'} e f g =
+    ap (λ (z : ℕ). each (λ c. landed z (moves P w b c)) r) e ∙ (ap (λ (z : ℕ). each (λ c. landed a' (moves P w z c)) r) f ∙ ap (each (λ c. landed a' (moves P w b' c))) g)

@@ -1,0 +1,59 @@
+use Rattle.std.proofs.Common.{◌≡◌, ℕ, ◌+◌, ◌-◌, ◌%◌, ◌<◌, ◌≤◌, Ok, Err, subst, arith}
+use Rattle.std.proofs.lemmas.Result.{err_from_is_err_and}
+use Rattle.engine.specs.Fills.{Safe, Brings}
+use Rattle.engine.proofs.Fills.{safe_on}
+use Rattle.engine.proofs.Steps.{brought_to, rows_more, rows_error, watched_past}
+use Rattle.engine.proofs.fill.step_rows.Goals as goal
+
+pub returns-in_err-step_row-clause-brings : goal.returns-in_err-step_row-clause-brings
+returns-in_err-step_row-clause-brings g c P k w W T =
+    let told = err_from_is_err_and c.from_residual.result c.from_residual.ensures.1 in
+    let class = g.K.Kind.class in
+    let s = c.args.grid.now in
+    let j = c.step_row.new.grid in
+    let p = c.args.position.now.number in
+    let scene = c.args.position.now.scene.now in
+    let past = c.past-scene in
+    let q = c.loop-q.q in
+    let x = c.in_err-step_row.field-0.0 in
+    let l : q < p = c.loop-q-test.true in
+    let low : scene.base ≤ q = c.loop-q.auto.q in
+    let to = c.args.position.now.to in
+    let few = scene.short in
+    let W' = watched_past class scene past.result P w (q - scene.base) past.ensures.statements past.ensures.base past.ensures.events past.ensures.mode W in
+    let e : past.result.base ≡ q = omega (arith, past.ensures.base) in
+    rw (told.1, told.2)
+    (rows_error P w scene.base p class s k j (q + 1) x (omega arith)
+    (rows_more P w scene.base p class s k c.loop-q.grid j c.loop-q.invariant.safe q low l (omega arith) past.result.base (p - q) c.of.result.at e (omega arith) c.of.ensures (Err x) (T q low l) (c.loop-q.invariant.brings P k w W T)
+    (c.in_err-step_row.ensures.brings P k w W')))
+
+pub loop-q-preserved : goal.loop-q-preserved
+loop-q-preserved g c =
+    let class = g.K.Kind.class in
+    let s = c.args.grid.now in
+    let j = c.step_row.new.grid in
+    let p = c.args.position.now.number in
+    let scene = c.args.position.now.scene.now in
+    let past = c.past-scene in
+    let q = c.loop-q.q in
+    let l : q < p = c.loop-q-test.true in
+    let low : scene.base ≤ q = c.loop-q.auto.q in
+    let to = c.args.position.now.to in
+    let few = scene.short in
+    let e : past.result.base ≡ q = omega (arith, past.ensures.base) in
+    let safe = subst (λ (z : ℕ). Safe z c.loop-q.grid j (Ok tt)) c.of.ensures c.in_ok-step_row.ensures.safe in
+    record {
+      safe = safe_on (p % 5) s c.loop-q.grid j (Ok tt) c.loop-q.invariant.safe safe;
+      brings = λ P k w W T.
+          let W' = watched_past class scene past.result P w (q - scene.base) past.ensures.statements past.ensures.base past.ensures.events past.ensures.mode W in
+          rows_more P w scene.base p class s k c.loop-q.grid j c.loop-q.invariant.safe q low l (omega arith) past.result.base (p - q) c.of.result.at e (omega arith) c.of.ensures (Ok tt) (T q low l) (c.loop-q.invariant.brings P k w W T)
+          (c.in_ok-step_row.ensures.brings P k w W');
+    }
+
+pub returns-clause-brings : goal.returns-clause-brings
+returns-clause-brings g c P k w W T =
+    let s = c.args.grid.now in
+    let p = c.args.position.now.number in
+    let base = c.args.position.now.scene.now.base in
+    let e : c.loop-q.q ≡ p = omega arith in
+    subst (λ (z : ℕ). Brings g.K.Kind.class (p % 5) P k w p s c.loop-q.grid (brought_to P w base p g.K.Kind.class s z) (Ok tt)) e (c.loop-q.invariant.brings P k w W T)
