@@ -7,7 +7,7 @@ use Rattle.topl.specs.Runs.{Registers, World, so_far, alikeᶜ, reached}
 use Rattle.topl.specs.Rows.{Stands}
 use Rattle.topl.specs.Deciding as D
 use Rattle.topl.proofs.Deciding.{no_ruling, finding}
-use Rattle.engine.specs.declared.entry.Entry.{Entry}
+use Rattle.engine.specs.declared.front.Breach.{Breach}
 use Rattle.engine.specs.declared.front.Ruling.{Ruling}
 use Rattle.engine.specs.declared.front.Ruling.TheVariants.{Breaks, Spills, Overfills, GoesOn}
 use Rattle.engine.specs.Trails.{room_of}
@@ -34,12 +34,12 @@ module _ (P : T.Table) (k : Registers) (cap book : ℕ) (before now : World) (p 
   rules_goes e l b = rw (e, le-ltb cap (D.count P k now p) l, le-ltb book (D.need P k before now p) b)
 
 ruled_goes : (r : Ruling) → ruled r ≡ D.goes_on → r ≡ GoesOn
-ruled_goes (Breaks p x) e = let z : ◌≡◌ {A = ℕ} 0 1 = cc in absurd (omega arith)
+ruled_goes (Breaks b) e = let z : ◌≡◌ {A = ℕ} 0 1 = cc in absurd (omega arith)
 ruled_goes Spills e = let z : ◌≡◌ {A = ℕ} 0 1 = cc in absurd (omega arith)
 ruled_goes Overfills e = let z : ◌≡◌ {A = ℕ} 0 1 = cc in absurd (omega arith)
 ruled_goes GoesOn e = refl
 
-pub breaks_not : {p : ℕ} {x : Entry} → Breaks p x ≡ GoesOn → ⊥
+pub breaks_not : {b : Breach} → Breaks b ≡ GoesOn → ⊥
 breaks_not e = let z : ◌≡◌ {A = ℕ} 0 1 = cc in omega arith
 
 pub spills_not : Spills ≡ GoesOn → ⊥
