@@ -13,7 +13,7 @@ use Rattle.engine.specs.declared.front.Ruling.TheVariants.{Breaks, Spills, Overf
 use Rattle.engine.specs.Trails.{room_of}
 use Rattle.engine.specs.Fronts.{row_at, Grid, Room, Spares}
 use Rattle.engine.specs.Fills.{Ready, Tracked}
-use Rattle.engine.specs.Judging.{ruled, Balance, Judged, Held, Start, Decided, entries_before, Along}
+use Rattle.engine.specs.Judging.{ruled, ShowsRun, Balance, Judged, Held, Start, Decided, entries_before, Along}
 use Rattle.engine.proofs.Fills.{tracked_kept}
 
 module _ (P : T.Table) (k : Registers) (cap book : ℕ) (before now : World) (p : ℕ) where
@@ -47,6 +47,19 @@ spills_not e = let z : ◌≡◌ {A = ℕ} 0 1 = cc in omega arith
 
 pub overfills_not : Overfills ≡ GoesOn → ⊥
 overfills_not e = let z : ◌≡◌ {A = ℕ} 0 1 = cc in omega arith
+
+-- a position at which something is decided
+pub judged_stops : {V : Type 0} (class : V → Class) (cap : ℕ) (g h : Grid V) (p : ℕ) (P : T.Table) (k : Registers) (L : List T.Event) (w : World) (r : Ruling) → (r ≡ GoesOn → ⊥) →
+    ruled r ≡ D.ruling_at P k cap (room_of g.book) (so_far L) w p → ShowsRun P k w h.book r → Judged class cap g h p P k L w r
+judged_stops class cap g h p P k L w r n e s = record {
+  rules = e;
+  shown = s;
+  held = λ z. absurd (n z);
+  other = λ z. absurd (n z);
+  kept = λ z. absurd (n z);
+  needs = λ z. absurd (n z);
+  tracked = λ z. absurd (n z);
+}
 
 module _ {V : Type 0} (class : V → Class) (cap : ℕ) (base last : ℕ) (P : T.Table) (k : Registers) (L : List T.Event) (w : World) (g : Grid V) (S : Start class cap g base last P k L w) (five : last ≤ base + 4) where
   low_entries : (p : ℕ) → p ≡ base → entries_before P k L w p ≡ D.sum (suc (length L)) (D.count P k (so_far L))
