@@ -77,7 +77,7 @@ module _ {V : Type 0} (class : V → Class) (cap : ℕ) (base last : ℕ) (P : T
   }
 
   module _ (p : ℕ) (h : Grid V) (long : length h.book ≡ length g.book) (R : Room cap h) (A : Along class cap (room_of g.book) h base last p P k L w) (low : base ≤ p) (high : p ≤ last) where
-    pub along_ready : Ready class cap h base p P k L w
+    along_ready : Ready class cap h base p P k L w
     along_ready = record {
       steps = S.steps;
       from = S.from;
@@ -92,10 +92,13 @@ module _ {V : Type 0} (class : V → Class) (cap : ℕ) (base last : ℕ) (P : T
     balance zero l = let o = S.resumes.origin.0 in let c = S.resumes.origin.1 in omega arith
     balance (suc q) l = let t = S.to in S.resumes.further q (omega arith)
 
-    pub along_balance : Balance h.used p P k L w
+    along_balance : Balance h.used p P k L w
     along_balance = balance p high ∙ ap (λ (z : ℕ). z + D.count P k w p) (sym A.entered)
 
-    module _ (j : Grid V) (r : Ruling) (X : Spares (p % 5) h.front j.front) (J : Judged class cap h j p P k L w r) where
+    module _ (j : Grid V) (r : Ruling) (X : Spares (p % 5) h.front j.front) (c : ℕ) (same : c ≡ cap) (judged : Ready class c h base p P k L w → Balance h.used p P k L w → Judged class c h j p P k L w r) where
+      J : Judged class cap h j p P k L w r
+      J = subst (λ (z : ℕ). Judged class z h j p P k L w r) same (judged (subst (λ (z : ℕ). Ready class z h base p P k L w) (sym same) along_ready) along_balance)
+
       rules' : ruled r ≡ D.ruling_at P k cap (room_of g.book) (so_far L) w p
       rules' = J.rules ∙ ap (λ (z : ℕ). D.ruling_at P k cap z (so_far L) w p) (let l = long in omega arith)
 
