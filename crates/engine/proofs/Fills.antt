@@ -1,7 +1,8 @@
 -- How a row fills, and its entries with it.
-use Rattle.std.proofs.Common.{◌≡◌, ℕ, suc, ◌+◌, ◌*◌, ◌<◌, ◌≤◌, Bool, true, false, cond, ◌&&◌, List, [], ◌∷◌, ◌++◌, length, get_or, drop, Ok, Err, Result, vec_items, vec_len, sym, refl, ap, ◌∙◌, subst, ⊎_elim, append_assoc, arith}
+use Rattle.std.proofs.Common.{◌≡◌, ℕ, suc, ◌+◌, ◌*◌, ◌<◌, ◌≤◌, Bool, true, false, cond, ◌&&◌, ◌||◌, List, [], ◌∷◌, ◌++◌, length, get_or, drop, Ok, Err, Result, vec_items, vec_len, sym, refl, ap, ◌∙◌, subst, inl, inr, ⊎_elim, true≢false, append_assoc, arith}
 use Rattle.std.proofs.lemmas.List.{append-nil, get_or_append_left, get_or_push}
 use Rattle.std.proofs.lemmas.Bool.{or_right, or_from, cases_lt, cond-false, ne_eqb, and_right}
+use Rattle.std.specs.Result.{is_err}
 use Rattle.topl.specs.Lists.{Class, holds}
 use Rattle.topl.specs.Table as T
 use Rattle.topl.specs.Runs.{Configuration, Registers, World, Reach, first_configuration, alikeᶜ, has_come, quiet, skips}
@@ -10,11 +11,12 @@ use Rattle.topl.specs.Deciding.{any_error}
 use Rattle.topl.proofs.Loops.{filled_added, filled_held, filled_spilled, error_append}
 use Rattle.engine.specs.declared.entry.Entry.{Entry}
 use Rattle.engine.specs.declared.grid.Grid as G
+use Rattle.engine.specs.declared.row.Crowded.{Crowded}
 use Rattle.engine.specs.Trails.{steps_to, steps_by, room_of}
-use Rattle.engine.specs.Fronts.{row_at, count_at, entries_at, Grid, grid, Room, Spares, Comes}
+use Rattle.engine.specs.Fronts.{row_at, count_at, entries_at, Grid, grid, Room, Spares, Comes, Arrives}
 use Rattle.engine.specs.Grids.{grid_of}
 use Rattle.engine.specs.Fills.{Tracked, Tracks, Fits, Grows, Brought, Brings, Safe}
-use Rattle.engine.proofs.Fronts.{length_row_at, length_entries, entry_read}
+use Rattle.engine.proofs.Fronts.{length_row_at, length_entries}
 
 -- a grid whose row has spilled
 abbrev pub spill : {V : Type 0} → Grid V → Grid V
@@ -109,6 +111,20 @@ module _ {V : Type 0} (class : V → Class) (cap : ℕ) (P : T.Table) (k : Regis
       tracked = λ _ t. t;
     }
 
+    -- what comes to a position that has room for it, or holds it; and to one that has not
+    module _ (h : Grid V) (from : Entry) (c : Configuration) (n : c.state ≡ T.error → ⊥) where
+      safe : any_error (c ∷ []) ≡ false
+      safe = ap (λ z. z || false) (ne_eqb c.state T.error n)
+
+      pub brought_in : (r : Result (Unit {0}) Crowded) → is_err r ≡ false → Arrives class cap g h slot from c r → Reach P k w p c (steps_by g.book from) → Brought class cap slot P k w p g h (c ∷ []) (Ok tt)
+      brought_in (Ok _) i (inl a) m = subst (λ z. Brought class cap slot P k w p g z (c ∷ []) (Ok tt)) (sym a.1) (safe, grows_held c a.0)
+      brought_in (Ok _) i (inr a) m = (safe, grows_added h c from a m)
+      brought_in (Err _) i a m = absurd (true≢false i)
+
+      pub brought_over : (r : Result (Unit {0}) Crowded) → is_err r ≡ true → Arrives class cap g h slot from c r → Brought class cap slot P k w p g (spill h) (c ∷ []) (Ok tt)
+      brought_over (Err _) i a = subst (λ z. Brought class cap slot P k w p g (spill z) (c ∷ []) (Ok tt)) (sym a.2) (safe, grows_spilled c a.0 a.1)
+      brought_over (Ok _) i a = absurd (true≢false (sym i))
+
     pub brought_none : (added : List Configuration) → added ≡ [] → Brought class cap slot P k w p g g added (Ok tt)
     brought_none added e = subst (λ z. Brought class cap slot P k w p g g z (Ok tt)) (sym e) (refl, grows_none)
 
@@ -147,14 +163,6 @@ module _ (P : T.Table) (w : World) (q : ℕ) where
 
   pub loud_skips : (p : ℕ) (c : Configuration) → quiet w q c (T.numbered P) ≡ false → landed p (skips P w q c) ≡ []
   loud_skips p c h = ap (λ b. landed p (cond b ((0, suc q, c) ∷ []) [])) (and_right (has_come (drop q w.events)) (quiet w q c (T.numbered P)) h)
-
--- what an entry stands for, as it is read once more has come to another position
-pub entry_steps : {V : Type 0} (class : V → Class) (cap slot i : ℕ) (g h : Grid V) → slot < 5 → Room cap g → Room cap h → i < count_at g.front slot →
-    (count_at h.front slot ≡ count_at g.front slot) × (entries_at h.front slot ≡ entries_at g.front slot) → ((n : ℕ) → n < g.used → steps_to h.book n ≡ steps_to g.book n) →
-    steps_to h.book (get_or h.front.entries (64 * slot + i) 0) ≡ steps_to g.book (get_or (entries_at g.front slot) i 0)
-entry_steps class cap slot i g h five R S l (ec, ee) kept =
-    let n = length_entries class cap slot g five R in
-    ap (steps_to h.book) (entry_read class cap slot i h five S (omega arith) ∙ ap (λ z. get_or z i 0) ee) ∙ kept (get_or (entries_at g.front slot) i 0) (R.5 slot i (omega arith))
 
 -- Whatever the events are.
 module _ {V : Type 0} (slot : ℕ) (g : G.Grid V) where
@@ -217,3 +225,10 @@ pub tracks_kept : {V : Type 0} (class : V → Class) (P : T.Table) (k : Register
     ((n : ℕ) → n < g.book.used → steps_to (vec_items h.book.entries) n ≡ steps_to (vec_items g.book.entries) n) → Tracks class P k w p g slot → Tracks class P k w p h slot
 tracks_kept class P k w p g h slot five e er ec kept t =
     subst (λ (z : ℕ). Tracked class z P k w p (grid_of h) slot) (sym e) (tracked_kept class g.cap P k w p (grid_of g) (grid_of h) slot five g.room er ec kept t)
+
+-- a configuration that was read at a tracked position is reached by the steps of its entry
+pub entered_reach : {V : Type 0} (class : V → Class) (P : T.Table) (k : Registers) (w : World) (p : ℕ) (g : G.Grid V) (slot i : ℕ) (c : Configuration) (n : ℕ) → i < count_at g.front slot →
+    c ≡ get_or (row_at class g.cap (grid_of g) slot) i (first_configuration []) → n ≡ get_or (entries_at g.front slot) i 0 → Tracks class P k w p g slot → Reach P k w p c (steps_to (vec_items g.book.entries) n)
+entered_reach class P k w p g slot i c n l ec en t =
+    subst (λ d. Reach P k w p d (steps_to (vec_items g.book.entries) n)) (sym ec)
+    (subst (λ (z : ℕ). Reach P k w p (get_or (row_at class g.cap (grid_of g) slot) i (first_configuration [])) (steps_to (vec_items g.book.entries) z)) (sym en) (t i l))

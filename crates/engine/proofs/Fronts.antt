@@ -235,20 +235,11 @@ module _ {V : Type 0} (class : V → Class) where
       ap (λ z. configuration class (get_or ss i 0) (take 8 z)) (ap (λ (z : ℕ). drop z vs) (sym a) ∙ sym (drop-drop (8 * i) 8 vs)) ∙ row_get ss (drop 8 vs) i d (omega arith)
 
   -- configuration i of a position, as it is read
-  pub configuration_at : (cap slot i : ℕ) (g : Grid V) (d : Configuration) → slot < 5 → Room cap g → i < length (row_at class cap g slot) →
-      configuration class (get_or g.front.states (64 * slot + i) 0) (take 8 (drop (8 * i) (drop (slot * (8 * cap)) g.rows))) ≡ get_or (row_at class cap g slot) i d
-  configuration_at cap slot i g d five R l =
+  pub row_read : (cap slot i : ℕ) (g : Grid V) (held : List V) (d : Configuration) → slot < 5 → Room cap g → i < count_at g.front slot → held ≡ take 8 (drop (8 * i) (drop (slot * (8 * cap)) g.rows)) →
+      configuration class (get_or g.front.states (64 * slot + i) 0) held ≡ get_or (row_at class cap g slot) i d
+  row_read cap slot i g held d five R l e =
       let a = R.0 in
       let b = R.3 slot in
       let n = length_states g.front slot R.2 five (omega arith) in
-      let m = length_row (states_at g.front slot) (drop (slot * (8 * cap)) g.rows) in
-      let s : get_or g.front.states (64 * slot + i) 0 ≡ get_or (states_at g.front slot) i 0 = sym (get_or-take (count_at g.front slot) (drop (64 * slot) g.front.states) i 0 (omega arith) ∙ get_or-drop (64 * slot) g.front.states i 0) in
-      ap (λ z. configuration class z (take 8 (drop (8 * i) (drop (slot * (8 * cap)) g.rows)))) s ∙ row_get (states_at g.front slot) (drop (slot * (8 * cap)) g.rows) i d (omega arith)
-
-  -- the same where the position is as it was
-  pub row_read : (cap slot i : ℕ) (g h : Grid V) (held : List V) (d : Configuration) → slot < 5 → Room cap g → Room cap h → i < count_at g.front slot → row_at class cap h slot ≡ row_at class cap g slot →
-      held ≡ take 8 (drop (8 * i) (drop (slot * (8 * cap)) h.rows)) → configuration class (get_or h.front.states (64 * slot + i) 0) held ≡ get_or (row_at class cap g slot) i d
-  row_read cap slot i g h held d five R S l same e =
-      let n = length_row_at cap slot g five R in
-      let k : i < length (row_at class cap h slot) = let z = ap length same in omega arith in
-      ap (configuration class (get_or h.front.states (64 * slot + i) 0)) e ∙ (configuration_at cap slot i h d five S k ∙ ap (λ z. get_or z i d) same)
+      let s : get_or g.front.states (64 * slot + i) 0 ≡ get_or (states_at g.front slot) i 0 = sym (get_or-take (count_at g.front slot) (drop (64 * slot) g.front.states) i 0 l ∙ get_or-drop (64 * slot) g.front.states i 0) in
+      ap₂ (configuration class) s e ∙ row_get (states_at g.front slot) (drop (slot * (8 * cap)) g.rows) i d (omega arith)

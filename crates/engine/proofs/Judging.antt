@@ -7,13 +7,13 @@ use Rattle.topl.specs.Runs.{Registers, World, so_far, alikeᶜ, reached}
 use Rattle.topl.specs.Rows.{Stands}
 use Rattle.topl.specs.Deciding as D
 use Rattle.topl.proofs.Deciding.{no_ruling, finding}
-use Rattle.engine.specs.declared.entry.Entry.{Entry}
+use Rattle.engine.specs.declared.front.Breach.{Breach}
 use Rattle.engine.specs.declared.front.Ruling.{Ruling}
 use Rattle.engine.specs.declared.front.Ruling.TheVariants.{Breaks, Spills, Overfills, GoesOn}
 use Rattle.engine.specs.Trails.{room_of}
 use Rattle.engine.specs.Fronts.{row_at, Grid, Room, Spares}
 use Rattle.engine.specs.Fills.{Ready, Tracked}
-use Rattle.engine.specs.Judging.{ruled, Balance, Judged, Held, Start, Decided, entries_before, Along}
+use Rattle.engine.specs.Judging.{ruled, ShowsRun, Balance, Judged, Held, Start, Decided, entries_before, Along}
 use Rattle.engine.proofs.Fills.{tracked_kept}
 
 module _ (P : T.Table) (k : Registers) (cap book : ℕ) (before now : World) (p : ℕ) where
@@ -34,12 +34,12 @@ module _ (P : T.Table) (k : Registers) (cap book : ℕ) (before now : World) (p 
   rules_goes e l b = rw (e, le-ltb cap (D.count P k now p) l, le-ltb book (D.need P k before now p) b)
 
 ruled_goes : (r : Ruling) → ruled r ≡ D.goes_on → r ≡ GoesOn
-ruled_goes (Breaks p x) e = let z : ◌≡◌ {A = ℕ} 0 1 = cc in absurd (omega arith)
+ruled_goes (Breaks b) e = let z : ◌≡◌ {A = ℕ} 0 1 = cc in absurd (omega arith)
 ruled_goes Spills e = let z : ◌≡◌ {A = ℕ} 0 1 = cc in absurd (omega arith)
 ruled_goes Overfills e = let z : ◌≡◌ {A = ℕ} 0 1 = cc in absurd (omega arith)
 ruled_goes GoesOn e = refl
 
-pub breaks_not : {p : ℕ} {x : Entry} → Breaks p x ≡ GoesOn → ⊥
+pub breaks_not : {b : Breach} → Breaks b ≡ GoesOn → ⊥
 breaks_not e = let z : ◌≡◌ {A = ℕ} 0 1 = cc in omega arith
 
 pub spills_not : Spills ≡ GoesOn → ⊥
@@ -47,6 +47,19 @@ spills_not e = let z : ◌≡◌ {A = ℕ} 0 1 = cc in omega arith
 
 pub overfills_not : Overfills ≡ GoesOn → ⊥
 overfills_not e = let z : ◌≡◌ {A = ℕ} 0 1 = cc in omega arith
+
+-- a position at which something is decided
+pub judged_stops : {V : Type 0} (class : V → Class) (cap : ℕ) (g h : Grid V) (p : ℕ) (P : T.Table) (k : Registers) (L : List T.Event) (w : World) (r : Ruling) → (r ≡ GoesOn → ⊥) →
+    ruled r ≡ D.ruling_at P k cap (room_of g.book) (so_far L) w p → ShowsRun P k w h.book r → Judged class cap g h p P k L w r
+judged_stops class cap g h p P k L w r n e s = record {
+  rules = e;
+  shown = s;
+  held = λ z. absurd (n z);
+  other = λ z. absurd (n z);
+  kept = λ z. absurd (n z);
+  needs = λ z. absurd (n z);
+  tracked = λ z. absurd (n z);
+}
 
 module _ {V : Type 0} (class : V → Class) (cap : ℕ) (base last : ℕ) (P : T.Table) (k : Registers) (L : List T.Event) (w : World) (g : Grid V) (S : Start class cap g base last P k L w) (five : last ≤ base + 4) where
   low_entries : (p : ℕ) → p ≡ base → entries_before P k L w p ≡ D.sum (suc (length L)) (D.count P k (so_far L))
@@ -64,7 +77,7 @@ module _ {V : Type 0} (class : V → Class) (cap : ℕ) (base last : ℕ) (P : T
   }
 
   module _ (p : ℕ) (h : Grid V) (long : length h.book ≡ length g.book) (R : Room cap h) (A : Along class cap (room_of g.book) h base last p P k L w) (low : base ≤ p) (high : p ≤ last) where
-    pub along_ready : Ready class cap h base p P k L w
+    along_ready : Ready class cap h base p P k L w
     along_ready = record {
       steps = S.steps;
       from = S.from;
@@ -79,10 +92,13 @@ module _ {V : Type 0} (class : V → Class) (cap : ℕ) (base last : ℕ) (P : T
     balance zero l = let o = S.resumes.origin.0 in let c = S.resumes.origin.1 in omega arith
     balance (suc q) l = let t = S.to in S.resumes.further q (omega arith)
 
-    pub along_balance : Balance h.used p P k L w
+    along_balance : Balance h.used p P k L w
     along_balance = balance p high ∙ ap (λ (z : ℕ). z + D.count P k w p) (sym A.entered)
 
-    module _ (j : Grid V) (r : Ruling) (X : Spares (p % 5) h.front j.front) (J : Judged class cap h j p P k L w r) where
+    module _ (j : Grid V) (r : Ruling) (X : Spares (p % 5) h.front j.front) (c : ℕ) (same : c ≡ cap) (judged : Ready class c h base p P k L w → Balance h.used p P k L w → Judged class c h j p P k L w r) where
+      J : Judged class cap h j p P k L w r
+      J = subst (λ (z : ℕ). Judged class z h j p P k L w r) same (judged (subst (λ (z : ℕ). Ready class z h base p P k L w) (sym same) along_ready) along_balance)
+
       rules' : ruled r ≡ D.ruling_at P k cap (room_of g.book) (so_far L) w p
       rules' = J.rules ∙ ap (λ (z : ℕ). D.ruling_at P k cap z (so_far L) w p) (let l = long in omega arith)
 

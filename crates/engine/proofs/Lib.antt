@@ -7,6 +7,7 @@ pub mod Fronts
 pub mod Tables
 pub mod Properties
 pub mod Fills
+pub mod Steps
 pub mod Judging
 pub mod Windows
 pub mod Opens

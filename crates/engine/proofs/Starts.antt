@@ -40,17 +40,6 @@ module _ {V : Type 0} (class : V → Class) (cap slot : ℕ) (g : Grid V) (G : F
       subst (λ z. Reach P k w p (get_or z i (first_configuration [])) (steps_to g.book (get_or (entries_at G q) i 0))) (sym (cleared_row q ne))
       (subst (λ z. Reach P k w p (get_or (row_at class cap g q) i (first_configuration [])) (steps_to g.book (get_or z i 0))) (sym (cleared_entries q ne)) (t i (omega arith)))
 
-  pub cleared_room : Room cap g → Room cap cleared
-  cleared_room R = (
-    R.0,
-    R.1,
-    ap length C.states ∙ R.2,
-    λ k. ⊎_elim (λ (e : k ≡ slot). subst (λ (z : ℕ). count_at G z ≤ cap) (sym e) (let a = C.count_here in omega arith)) (λ ne. let a = C.count_other k ne in let b = R.3 k in omega arith) (cases_eq k slot),
-    ap length C.entries ∙ R.4,
-    λ k. ⊎_elim (λ (e : k ≡ slot). subst (λ (z : ℕ). Below g.used (entries_at G z)) (sym e) (subst (λ (z : ℕ). Below g.used (take z (drop (64 * slot) G.entries))) (sym C.count_here) (λ i l. absurd (omega arith))))
-        (λ ne. subst (Below g.used) (sym (cleared_entries k ne)) (R.5 k)) (cases_eq k slot),
-  )
-
 module _ (P : T.Table) (k : Registers) (cap book : ℕ) (L : List T.Event) (S : Steady P k cap book L) where
   -- no `error` in a row that stands
   no_error : (q : ℕ) (row : List Configuration) → Stands P k (so_far L) q row → any_error row ≡ false

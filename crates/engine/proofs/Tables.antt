@@ -1,14 +1,17 @@
 -- The statements of a table, one by one.
-use Rattle.std.proofs.Common.{◌≡◌, ℕ, zero, suc, ◌+◌, ◌<◌, Bool, true, false, ◌&&◌, List, [], ◌∷◌, map, length, get_or, sym, refl, ap, ◌∙◌, arith}
+use Rattle.std.proofs.Common.{◌≡◌, ℕ, zero, suc, ◌+◌, ◌<◌, Bool, true, false, not, eqb, ◌&&◌, List, [], ◌∷◌, map, length, get_or, drop, sym, refl, ap, ap₂, ◌∙◌, arith}
 use mathlib.Core.List.Memᴰ
 use Rattle.std.specs.List.{list_all}
+use Rattle.std.proofs.lemmas.Bool.{ne_eqb}
 use Rattle.std.proofs.lemmas.List.{get_or-map, length-map}
 use Rattle.topl.specs.Lists.{◌∈◌}
 use Rattle.topl.specs.Table as T
-use Rattle.topl.specs.Runs.{Configuration, World, calms, quiet}
+use Rattle.topl.specs.Runs.{Configuration, Mode, World, calm, calms, fares, quiet}
 use Rattle.topl.proofs.Moves as M
+use Rattle.engine.specs.declared.table.Matcher.{Matcher}
+use Rattle.engine.specs.declared.table.Matcher.TheVariants.{Any}
 use Rattle.engine.specs.declared.table.Statement.{Statement}
-use Rattle.engine.specs.Views.{statement}
+use Rattle.engine.specs.Views.{matcher, statement}
 
 number_at : (n : ℕ) (ts : List T.Statement) (i : ℕ) (d : ℕ × T.Statement) → i < length ts → (get_or (T.count_from n ts) i d).0 ≡ n + i
 number_at n [] i d l = absurd (omega arith)
@@ -42,19 +45,29 @@ module _ (P : T.Table) (ts : List Statement) (e : P.statements ≡ map statement
   pub numbered_end : (i : ℕ) → i ≡ length ts → get_or (T.numbered P) i (65, T.implied) ≡ (65, T.implied)
   numbered_end i l = M.numbered_end P i (l ∙ sym long)
 
--- all statements let a skip go on: the written ones, and the implied one
-pub quiet_is : (w : World) (p : ℕ) (c : Configuration) (P : T.Table) (ts : List Statement) → P.statements ≡ map statement ts →
-    (list_all (λ t. calms w p c (0, statement t)) ts && calms w p c (65, T.implied)) ≡ quiet w p c (T.numbered P)
-quiet_is w p c P ts e = go 1 ts ∙ ap (λ z. quiet w p c (T.count_from 1 z)) (sym e)
-  where
-    last : (b : Bool) → b ≡ (b && true)
-    last true = refl
-    last false = refl
+-- whether all statements let a skip go on: a tells it of the written ones
+module _ (w : World) (p : ℕ) (c : Configuration) (P : T.Table) (ts : List Statement) (e : P.statements ≡ map statement ts) (a : Bool) (written : a ≡ list_all (λ t. calms w p c (0, statement t)) ts) where
+  quiet_is : (a && calms w p c (65, T.implied)) ≡ quiet w p c (T.numbered P)
+  quiet_is = ap (λ b. b && calms w p c (65, T.implied)) written ∙ (go 1 ts ∙ ap (λ z. quiet w p c (T.count_from 1 z)) (sym e))
+    where
+      last : (b : Bool) → b ≡ (b && true)
+      last true = refl
+      last false = refl
 
-    on : (a b d r : Bool) → (b && d) ≡ r → ((a && b) && d) ≡ (a && r)
-    on true b d r h = h
-    on false b d r h = refl
+      on : (a b d r : Bool) → (b && d) ≡ r → ((a && b) && d) ≡ (a && r)
+      on true b d r h = h
+      on false b d r h = refl
 
-    go : (n : ℕ) (ts : List Statement) → (list_all (λ t. calms w p c (0, statement t)) ts && calms w p c (65, T.implied)) ≡ quiet w p c (T.count_from n (map statement ts))
-    go n [] = last (calms w p c (65, T.implied))
-    go n (t ∷ ts) = on (calms w p c (0, statement t)) (list_all (λ t. calms w p c (0, statement t)) ts) (calms w p c (65, T.implied)) (quiet w p c (T.count_from (suc n) (map statement ts))) (go (suc n) ts)
+      go : (n : ℕ) (ts : List Statement) → (list_all (λ t. calms w p c (0, statement t)) ts && calms w p c (65, T.implied)) ≡ quiet w p c (T.count_from n (map statement ts))
+      go n [] = last (calms w p c (65, T.implied))
+      go n (t ∷ ts) = on (calms w p c (0, statement t)) (list_all (λ t. calms w p c (0, statement t)) ts) (calms w p c (65, T.implied)) (quiet w p c (T.count_from (suc n) (map statement ts))) (go (suc n) ts)
+
+  pub quiet_not : a ≡ false → a ≡ quiet w p c (T.numbered P)
+  quiet_not h = h ∙ (ap (λ b. b && calms w p c (65, T.implied)) (sym h) ∙ quiet_is)
+
+  pub quiet_away : a ≡ true → (c.state ≡ 0 → ⊥) → not (eqb c.state 0) ≡ quiet w p c (T.numbered P)
+  quiet_away h n = ap not (ne_eqb c.state 0 n) ∙ (sym (ap₂ ◌&&◌ h (M.calms_away w p c (65, T.implied) (λ z. n (sym z)))) ∙ quiet_is)
+
+  pub quiet_here : a ≡ true → c.state ≡ 0 → (mode : Mode) → w.mode ≡ mode → (b : Bool) (ms : List Matcher) → ms ≡ Any ∷ [] → b ≡ calm mode (fares (map matcher ms) c.registers (drop p w.events)) → b ≡ quiet w p c (T.numbered P)
+  quiet_here h n mode m b ms i k =
+      k ∙ (ap₂ (λ x y. calm x (fares (map matcher y) c.registers (drop p w.events))) (sym m) i ∙ sym (M.calms_here w p c (65, T.implied) (sym n)) ∙ (ap (λ x. x && calms w p c (65, T.implied)) (sym h) ∙ quiet_is))

@@ -17,11 +17,11 @@ use Rattle.engine.specs.Trails.{steps_to, steps_by, room_of}
 use Rattle.engine.specs.Fronts.{row_at, count_at, entries_at, Grid, Others, Spares}
 use Rattle.engine.specs.Grids.{grid_of}
 
--- the statements of a table, and the events of a world from `base` on, as a scene has them
-pub record Watched {V : Type 0} (class : V → Class) (s : Scene V) (base : ℕ) (P : T.Table) (w : World) : Type 0 where
+-- the statements of a table, and the events of a world from the scene's base on, as a scene has them
+pub record Watched {V : Type 0} (class : V → Class) (s : Scene V) (P : T.Table) (w : World) : Type 0 where
   pub statements : P.statements ≡ map statement s.statements.now
   pub mode : w.mode ≡ mode_of s.mode
-  pub events : Seen class s.events.now (drop base w.events)
+  pub events : Seen class s.events.now (drop s.base w.events)
 
 -- each configuration at place `slot` is reached at p by the steps of its entry
 abbrev pub Tracked : {V : Type 0} → (V → Class) → ℕ → T.Table → Registers → World → ℕ → Grid V → ℕ → Type 0

@@ -1,12 +1,12 @@
 -- Rows of configurations as the code holds them.
-use Rattle.std.specs.Prelude.{◌≡◌, ℕ, ◌+◌, ◌*◌, ◌<◌, ◌≤◌, true, false, List, [], ◌∷◌, ◌++◌, map, length, take, drop, ◌≢◌, slice_index}
+use Rattle.std.specs.Prelude.{◌≡◌, ℕ, ◌+◌, ◌*◌, ◌<◌, ◌≤◌, ◌⊎◌, true, false, List, [], ◌∷◌, ◌++◌, map, length, take, drop, Ok, Err, Result, ◌≢◌, slice_index}
 use Rattle.std.proofs.Math.Seq.{paste}
 use Rattle.topl.specs.Lists.{Class, holds}
 use Rattle.topl.specs.Runs.{Configuration, alikeᶜ}
 use Rattle.engine.specs.declared.entry.Entry.{Entry}
 use Rattle.engine.specs.declared.front.Front.{Front}
-use Rattle.engine.specs.declared.front.Arrival as A
-use Rattle.engine.specs.declared.front.Arrival.TheVariants as AV
+use Rattle.engine.specs.declared.configuration.Configuration as C
+use Rattle.engine.specs.declared.row.Crowded.{Crowded}
 use Rattle.engine.specs.Trails.{Enters}
 
 abbrev pub count_at : Front → ℕ → ℕ
@@ -60,6 +60,10 @@ module _ {V : Type 0} (class : V → Class) where
   abbrev pub configuration : ℕ → List V → Configuration
   configuration state registers = record { state = state; registers = map class registers }
 
+  -- the theory's configuration that one of the code stands for
+  abbrev pub stands_for : C.Configuration V → Configuration
+  stands_for c = configuration c.state c.registers
+
   -- states, and eight registers for each
   abbrev pub row : List ℕ → List V → List Configuration
   row [] vs = []
@@ -99,8 +103,7 @@ pub record Comes {V : Type 0} (class : V → Class) (cap : ℕ) (g h : Grid V) (
   pub enters : Enters g.book g.used from h.book h.used entry
   pub spilled : h.front.spilled ≡ g.front.spilled
 
--- what became of a configuration c that came to a position
-abbrev pub Arrives : {V : Type 0} → (V → Class) → ℕ → Grid V → Grid V → ℕ → Entry → Configuration → A.Arrival → Type 0
-Arrives class cap g h slot from c AV.Added = Comes class cap g h slot from c
-Arrives class cap g h slot from c AV.Held = (holds alikeᶜ (row_at class cap g slot) c ≡ true) × (h ≡ g)
-Arrives class cap g h slot from c AV.Spilled = (holds alikeᶜ (row_at class cap g slot) c ≡ false) × (length (row_at class cap g slot) ≡ cap) × (h ≡ g)
+-- A configuration c came to a position: the position held it, or c was added; or it has as many as it may have, and nothing changed.
+abbrev pub Arrives : {V : Type 0} → (V → Class) → ℕ → Grid V → Grid V → ℕ → Entry → Configuration → Result (Unit {0}) Crowded → Type 0
+Arrives class cap g h slot from c (Ok _) = ((holds alikeᶜ (row_at class cap g slot) c ≡ true) × (h ≡ g)) ⊎ Comes class cap g h slot from c
+Arrives class cap g h slot from c (Err _) = (holds alikeᶜ (row_at class cap g slot) c ≡ false) × (length (row_at class cap g slot) ≡ cap) × (h ≡ g)

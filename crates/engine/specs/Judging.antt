@@ -15,20 +15,20 @@ use Rattle.engine.specs.Fills.{Tracked}
 
 -- the theory's ruling, and the entry by which a run is shown
 abbrev pub ruled : Ruling → D.Ruling
-ruled (Breaks p x) = D.breaks p
+ruled (Breaks b) = D.breaks b.position
 ruled Spills = D.spills
 ruled Overfills = D.overfills
 ruled GoesOn = D.goes_on
 
 abbrev pub shown_entry : Ruling → Result (Unit {0}) Entry
-shown_entry (Breaks p x) = Err x
+shown_entry (Breaks b) = Err b.last
 shown_entry Spills = Ok tt
 shown_entry Overfills = Ok tt
 shown_entry GoesOn = Ok tt
 
 -- where it breaks, the entry shows a run that reaches `error` at the position
 abbrev pub ShowsRun : T.Table → Registers → World → List Entry → Ruling → Type 0
-ShowsRun P k w book (Breaks p x) = ErrsBy P k w p (steps_by book x)
+ShowsRun P k w book (Breaks b) = ErrsBy P k w b.position (steps_by book b.last)
 ShowsRun P k w book Spills = Unit {0}
 ShowsRun P k w book Overfills = Unit {0}
 ShowsRun P k w book GoesOn = Unit {0}

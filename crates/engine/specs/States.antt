@@ -4,7 +4,7 @@ use Rattle.topl.specs.Lists.{Class}
 use Rattle.topl.specs.Table as T
 use Rattle.topl.specs.Runs.{Registers, World, so_far}
 use Rattle.topl.specs.Deciding as D
-use Rattle.engine.specs.declared.entry.Entry.{Entry}
+use Rattle.engine.specs.declared.front.Breach.{Breach}
 use Rattle.engine.specs.declared.front.Ruling.{Ruling}
 use Rattle.engine.specs.declared.front.Ruling.TheVariants.{Breaks}
 use Rattle.engine.specs.declared.state.State.{State}
@@ -19,7 +19,7 @@ pub record Stays {V : Type 0} (s t : State V) (r : Ruling) : Type 0 where
   pub cap : t.grid.cap ≡ s.grid.cap
   pub board : vec_len t.grid.board ≡ vec_len s.grid.board
   pub book : length (vec_items t.grid.book.entries) ≡ length (vec_items s.grid.book.entries)
-  pub known : (p : ℕ) (x : Entry) → r ≡ Breaks p x → x.parent < t.grid.book.used
+  pub known : (b : Breach) → r ≡ Breaks b → b.last.parent < t.grid.book.used
 
 -- What a watch shows while it runs: the rows of the last four positions stand, and each configuration has its entry, by whose steps it is reached; the
 -- window has the last four events.

@@ -4,8 +4,8 @@ ghost use Rattle.engine.specs.Trails.{Linked, steps_to, room_of, Enters};
 
 use crate::entry::Entry;
 
-// So many entries count at most.
-const MOST_ENTRIES: usize = 16_384;
+// So many entries count at most, and so many events are judged: each has a position, and each position an entry.
+pub const MOST_ENTRIES: usize = 16_384;
 
 // The first `used` entries count. Entry 0 is the start; every other comes after its parent.
 // Kept a count beside entries that name their parents by number: the book is handed over, and nothing is allocated afterwards.
@@ -53,6 +53,7 @@ impl Book {
         }
         self.entries[at] = from;
         self.used = at + 1;
+        // Kept `as`: it is less than 16,384, so `try_from` would have an error case that cannot come.
         at as u16
     }
 

@@ -1,31 +1,28 @@
 // What the moves from earlier positions bring to one position.
-ghost use Rattle.std.specs.Prelude.{◌≡◌, ℕ, ◌+◌, ◌-◌, ◌%◌, ◌<◌, ◌≤◌, true, List, [], ◌∷◌, map, length, drop, ◌≢◌};
-ghost use Rattle.topl.specs.Lists.{each, every, ◌∈◌};
+ghost use Rattle.std.specs.Prelude.{◌≡◌, ℕ, ◌+◌, ◌-◌, ◌%◌, ◌<◌, ◌≤◌, List, [], ◌∷◌, map, ◌≢◌};
+ghost use Rattle.topl.specs.Lists.{each, ◌∈◌};
 ghost use Rattle.topl.specs.Table.{Event as Happening, Table as TheTable, numbered, implied};
 ghost use Rattle.topl.specs.Runs.{Registers, World, Reach, quiet, calm, calms, fares, lands, skips, moves};
 ghost use Rattle.topl.specs.Rows.{landed, incoming};
 ghost use Rattle.engine.specs.declared.table.Matcher.TheVariants.{Any};
 ghost use Rattle.engine.specs.Modes.{mode_of};
-ghost use Rattle.engine.specs.Views.{matcher, statement, stated, inside, fit, sound, Seen};
+ghost use Rattle.engine.specs.Views.{matcher, statement, stated, Seen};
 ghost use Rattle.engine.specs.Trails.{steps_to, steps_by};
-ghost use Rattle.engine.specs.Fronts.{configuration, row_at};
+ghost use Rattle.engine.specs.Fronts.{stands_for, row_at};
 ghost use Rattle.engine.specs.Grids.{grid_of};
 ghost use Rattle.engine.specs.Fills.{Ready, Fills, Watched, Safe, Tracks, Brings, first_error};
 
 use crate::attempt::attempt_statement;
+use crate::configuration::{Configuration, Entered};
 use crate::entry::Entry;
-use crate::front::{Arrival, Filling, Mark, Way};
+use crate::front::{Filling, Way};
 use crate::grid::Grid;
-use crate::row::{arrive, registers_at};
-use crate::scene::Scene;
+use crate::row::{arrive, entered_at};
+use crate::scene::{Position, Scene};
+use crate::slot::Slot;
 use crate::table::{Matcher, Numbered, Outcome, Statement};
 use kinds::kind::Kind;
-
-// The state that every run begins in.
-const START: u8 = 0;
-
-// The state that no run may reach.
-const ERROR: u8 = 1;
+use topl::states::{ERROR, START};
 
 // The number of a skip.
 const SKIP: u8 = 0;
@@ -40,6 +37,7 @@ fn written_at(i: usize, t: &Statement) -> Numbered<'_>
     ensures are { result.events.now ≡ t.now.events.items }
     ensures stands { stated result ≡ statement t.now }
 {
+    // Kept `as`: there are at most 64 statements, so `try_from` would have an error case that cannot come.
     Numbered {
         number: i as u8 + 1,
         source: t.source,
@@ -67,43 +65,36 @@ fn implied_by(any: &[Matcher; 1]) -> Numbered<'_>
 // Kept the bound on the entry in its terms, as in the moves below: it is one on the book, which changes while the entry is held.
 fn land<K: Kind>(
     grid: &mut Grid<K::Value>,
-    slot: usize,
+    slot: Slot,
     from: Entry,
-    state: u8,
-    registers: &[K::Value; 8],
+    c: &Configuration<K::Value>,
 ) -> Result<(), Entry>
-    requires { (slot < 5) × (from.parent < grid.old.book.used) }
-    ensures safe { Safe slot grid.old grid.new result }
+    requires { from.parent < grid.old.book.used }
+    ensures safe { Safe slot.at grid.old grid.new result }
     ensures brings { (P : TheTable) (k : Registers) (w : World) (p : ℕ)
-        → Reach P k w p (configuration K.Kind.class state registers.now) (steps_by grid.old.book.entries.items from)
-        → Brings K.Kind.class slot P k w p grid.old grid.new (configuration K.Kind.class state registers.now ∷ []) result }
+        → Reach P k w p (stands_for K.Kind.class c.now) (steps_by grid.old.book.entries.items from)
+        → Brings K.Kind.class slot.at P k w p grid.old grid.new (stands_for K.Kind.class c.now ∷ []) result }
 {
-    if state == ERROR {
+    if c.state == ERROR {
         return Err(from);
     }
-    match arrive::<K>(grid, slot, from, state, registers) {
-        Arrival::Added => Ok(()),
-        Arrival::Held => Ok(()),
-        Arrival::Spilled => {
-            grid.front.spilled = true;
-            Ok(())
-        }
+    if arrive::<K>(grid, slot, from, c).is_err() {
+        grid.front.spilled = true;
     }
+    Ok(())
 }
 
 // Does a statement that leaves the state, by its matchers, let a skip go on: it fails or, once the list has ended, hangs?
 fn is_calm<K: Kind>(
     scene: &Scene<'_, K::Value>,
     matchers: &[Matcher],
-    from: usize,
-    held: &[K::Value; 8],
+    c: &Configuration<K::Value>,
 ) -> bool
-    requires { (every inside matchers.now ≡ true) × (from ≤ length scene.now.events.now) }
     ensures { (es : List Happening) → Seen K.Kind.class scene.now.events.now es
-        → result ≡ calm (mode_of scene.now.mode) (fares (map matcher matchers.now) (map K.Kind.class held.now) (drop from es)) }
+        → result ≡ calm (mode_of scene.now.mode) (fares (map matcher matchers.now) (map K.Kind.class c.now.registers) es) }
 {
-    let mut registers = *held;
-    match attempt_statement::<K>(scene, matchers, from, &mut registers) {
+    let mut registers = c.registers;
+    match attempt_statement::<K>(scene.events, matchers, &mut registers) {
         Outcome::Passes => false,
         Outcome::Fails => true,
         Outcome::Hangs => scene.mode.lets_hang(),
@@ -111,180 +102,166 @@ fn is_calm<K: Kind>(
 }
 
 // Do all statements that leave the state let a skip go on?
-fn is_quiet<K: Kind>(
-    scene: &Scene<'_, K::Value>,
-    from: usize,
-    state: u8,
-    held: &[K::Value; 8],
-) -> bool
-    requires { from ≤ length scene.now.events.now }
-    ensures { (base : ℕ) (P : TheTable) (w : World) → Watched K.Kind.class scene.now base P w
-        → result ≡ quiet w (base + from) (configuration K.Kind.class state held.now) (numbered P) }
+fn is_quiet<K: Kind>(scene: &Scene<'_, K::Value>, c: &Configuration<K::Value>) -> bool
+    ensures { (P : TheTable) (w : World) → Watched K.Kind.class scene.now P w
+        → result ≡ quiet w scene.now.base (stands_for K.Kind.class c.now) (numbered P) }
 {
     let written = scene.statements.iter().all(
         |t| -> bool
-            requires { (sound t.now ≡ true) × (from ≤ length scene.now.events.now) }
-            ensures { (base : ℕ) (P : TheTable) (w : World) → Watched K.Kind.class scene.entry.now base P w
-                → (n : ℕ) → result ≡ calms w (base + from) (configuration K.Kind.class state held.entry.now) (n, statement t.now) }
-        { t.source != state || is_calm::<K>(scene, &t.events, from, held) },
+            ensures { (P : TheTable) (w : World) → Watched K.Kind.class scene.entry.now P w
+                → (n : ℕ) → result ≡ calms w scene.entry.now.base (stands_for K.Kind.class c.entry.now) (n, statement t.now) }
+        { t.source != c.state || is_calm::<K>(scene, &t.events, c) },
     );
-    written
-        && (state != START || is_calm::<K>(scene, implied_by(&[Matcher::Any]).events, from, held))
+    written && (c.state != START || is_calm::<K>(scene, implied_by(&[Matcher::Any]).events, c))
 }
 
-// What one statement brings from a configuration to the position at the end of a way.
+// What one statement brings from a configuration at the scene's first position to the position at the end of a way.
 fn step_statement<K: Kind>(
     grid: &mut Grid<K::Value>,
     scene: &Scene<'_, K::Value>,
     t: &Numbered<'_>,
     way: Way,
-    at: Mark,
-    held: &[K::Value; 8],
+    at: &Entered<K::Value>,
 ) -> Result<(), Entry>
-    requires { (way.from ≤ length scene.now.events.now) × (at.entry < grid.old.book.used)
-        × (fit t.now.events.now ≡ true) }
-    ensures safe { Safe way.slot grid.old grid.new result }
-    ensures brings { (base : ℕ) (P : TheTable) (k : Registers) (w : World) → Watched K.Kind.class scene.now base P w
+    requires { at.now.entry < grid.old.book.used }
+    ensures safe { Safe way.slot.at grid.old grid.new result }
+    ensures brings { (P : TheTable) (k : Registers) (w : World) → Watched K.Kind.class scene.now P w
         → (t.now.number, stated t.now) ∈ numbered P
-        → Reach P k w (base + way.from) (configuration K.Kind.class at.state held.now) (steps_to grid.old.book.entries.items at.entry)
-        → Brings K.Kind.class way.slot P k w (base + way.from + way.distance) grid.old grid.new
-        (landed (base + way.from + way.distance) (lands w (base + way.from) (configuration K.Kind.class at.state held.now) (t.now.number, stated t.now))) result }
+        → Reach P k w scene.now.base (stands_for K.Kind.class at.now.configuration) (steps_to grid.old.book.entries.items at.now.entry)
+        → Brings K.Kind.class way.slot.at P k w (scene.now.base + way.distance) grid.old grid.new
+        (landed (scene.now.base + way.distance) (lands w scene.now.base (stands_for K.Kind.class at.now.configuration) (t.now.number, stated t.now))) result }
 {
-    if t.source != at.state {
+    let c = &at.configuration;
+    if t.source != c.state {
         return Ok(());
     }
     if t.events.len() != way.distance {
         return Ok(());
     }
-    let mut registers = *held;
+    let mut registers = c.registers;
     let from = Entry {
         parent: at.entry,
         step: t.number,
     };
-    match attempt_statement::<K>(scene, t.events, way.from, &mut registers) {
-        Outcome::Passes => land::<K>(grid, way.slot, from, t.target, &registers),
+    match attempt_statement::<K>(scene.events, t.events, &mut registers) {
+        Outcome::Passes => {
+            let next = Configuration::new(t.target, registers);
+            land::<K>(grid, way.slot, from, &next)
+        }
         Outcome::Fails => Ok(()),
         Outcome::Hangs => Ok(()),
     }
 }
 
-// What a skip brings from a configuration to the position at the end of a way.
+// What a skip brings from a configuration at the scene's first position to the position at the end of a way.
 fn step_skip<K: Kind>(
     grid: &mut Grid<K::Value>,
     scene: &Scene<'_, K::Value>,
     way: Way,
-    at: Mark,
-    held: &[K::Value; 8],
+    at: &Entered<K::Value>,
 ) -> Result<(), Entry>
-    requires { (way.from ≤ length scene.now.events.now) × (at.entry < grid.old.book.used) }
-    ensures safe { Safe way.slot grid.old grid.new result }
-    ensures brings { (base : ℕ) (P : TheTable) (k : Registers) (w : World) → Watched K.Kind.class scene.now base P w
-        → Reach P k w (base + way.from) (configuration K.Kind.class at.state held.now) (steps_to grid.old.book.entries.items at.entry)
-        → Brings K.Kind.class way.slot P k w (base + way.from + way.distance) grid.old grid.new
-        (landed (base + way.from + way.distance) (skips P w (base + way.from) (configuration K.Kind.class at.state held.now))) result }
+    requires { at.now.entry < grid.old.book.used }
+    ensures safe { Safe way.slot.at grid.old grid.new result }
+    ensures brings { (P : TheTable) (k : Registers) (w : World) → Watched K.Kind.class scene.now P w
+        → Reach P k w scene.now.base (stands_for K.Kind.class at.now.configuration) (steps_to grid.old.book.entries.items at.now.entry)
+        → Brings K.Kind.class way.slot.at P k w (scene.now.base + way.distance) grid.old grid.new
+        (landed (scene.now.base + way.distance) (skips P w scene.now.base (stands_for K.Kind.class at.now.configuration))) result }
 {
     if way.distance != 1 {
         return Ok(());
     }
-    if way.from >= scene.events.len() {
+    if scene.events.is_empty() {
         return Ok(());
     }
-    if !is_quiet::<K>(scene, way.from, at.state, held) {
+    if !is_quiet::<K>(scene, &at.configuration) {
         return Ok(());
     }
     let from = Entry {
         parent: at.entry,
         step: SKIP,
     };
-    land::<K>(grid, way.slot, from, at.state, held)
+    land::<K>(grid, way.slot, from, &at.configuration)
 }
 
-// What the moves from a configuration bring to the position at the end of a way.
+// What the moves from a configuration at the scene's first position bring to the position at the end of a way.
 fn step_configuration<K: Kind>(
     grid: &mut Grid<K::Value>,
     scene: &Scene<'_, K::Value>,
     way: Way,
-    at: Mark,
-    held: &[K::Value; 8],
+    at: &Entered<K::Value>,
 ) -> Result<(), Entry>
-    requires { (way.from ≤ length scene.now.events.now) × (at.entry < grid.old.book.used) }
-    ensures safe { Safe way.slot grid.old grid.new result }
-    ensures brings { (base : ℕ) (P : TheTable) (k : Registers) (w : World) → Watched K.Kind.class scene.now base P w
-        → Reach P k w (base + way.from) (configuration K.Kind.class at.state held.now) (steps_to grid.old.book.entries.items at.entry)
-        → Brings K.Kind.class way.slot P k w (base + way.from + way.distance) grid.old grid.new
-        (landed (base + way.from + way.distance) (moves P w (base + way.from) (configuration K.Kind.class at.state held.now))) result }
+    requires { at.now.entry < grid.old.book.used }
+    ensures safe { Safe way.slot.at grid.old grid.new result }
+    ensures brings { (P : TheTable) (k : Registers) (w : World) → Watched K.Kind.class scene.now P w
+        → Reach P k w scene.now.base (stands_for K.Kind.class at.now.configuration) (steps_to grid.old.book.entries.items at.now.entry)
+        → Brings K.Kind.class way.slot.at P k w (scene.now.base + way.distance) grid.old grid.new
+        (landed (scene.now.base + way.distance) (moves P w scene.now.base (stands_for K.Kind.class at.now.configuration))) result }
 {
-    step_skip::<K>(grid, scene, way, at, held)?;
+    step_skip::<K>(grid, scene, way, at)?;
     for (i, t) in scene.statements.iter().enumerate() {
-        step_statement::<K>(grid, scene, &written_at(i, t), way, at, held)?;
+        step_statement::<K>(grid, scene, &written_at(i, t), way, at)?;
     }
-    step_statement::<K>(grid, scene, &implied_by(&[Matcher::Any]), way, at, held)
+    step_statement::<K>(grid, scene, &implied_by(&[Matcher::Any]), way, at)
 }
 
-// What the moves from all configurations of a position bring to the position at the end of a way.
+// What the moves from all configurations at the scene's first position bring to the position at the end of a way.
 fn step_row<K: Kind>(
     grid: &mut Grid<K::Value>,
     scene: &Scene<'_, K::Value>,
     way: Way,
-    source: usize,
 ) -> Result<(), Entry>
-    requires { (way.from ≤ length scene.now.events.now) × (source < 5) × (source ≢ way.slot) }
-    ensures safe { Safe way.slot grid.old grid.new result }
-    ensures brings { (base : ℕ) (P : TheTable) (k : Registers) (w : World) → Watched K.Kind.class scene.now base P w
-        → Tracks K.Kind.class P k w (base + way.from) grid.old source
-        → Brings K.Kind.class way.slot P k w (base + way.from + way.distance) grid.old grid.new
-        (each (λ c. landed (base + way.from + way.distance) (moves P w (base + way.from) c)) (row_at K.Kind.class grid.old.cap (grid_of grid.old) source)) result }
+    requires { scene.now.base % 5 ≢ way.slot.at }
+    ensures safe { Safe way.slot.at grid.old grid.new result }
+    ensures brings { (P : TheTable) (k : Registers) (w : World) → Watched K.Kind.class scene.now P w
+        → Tracks K.Kind.class P k w scene.now.base grid.old (scene.now.base % 5)
+        → Brings K.Kind.class way.slot.at P k w (scene.now.base + way.distance) grid.old grid.new
+        (each (λ c. landed (scene.now.base + way.distance) (moves P w scene.now.base c)) (row_at K.Kind.class grid.old.cap (grid_of grid.old) (scene.now.base % 5))) result }
 {
-    let count = grid.front.counts[source];
+    let source = Slot::of(scene.base);
+    let count = grid.front.counts[source.at];
     // Kept an index loop: the grid that the row stands in is changed on the way, so no iterator can hold the row.
     for i in 0..count {
-        let at = grid.front.mark_at(source, i);
-        let held = registers_at::<K>(grid, source, i);
-        step_configuration::<K>(grid, scene, way, at, &held)?;
+        let at = entered_at::<K>(grid, source, i);
+        step_configuration::<K>(grid, scene, way, &at)?;
     }
     Ok(())
 }
 
-// What the moves from the positions from `base` on bring to position p.
+// What the moves from the positions before it bring to a position, from the scene's first on.
 fn step_rows<K: Kind>(
     grid: &mut Grid<K::Value>,
-    scene: &Scene<'_, K::Value>,
-    base: usize,
-    p: usize,
+    position: &Position<'_, K::Value>,
 ) -> Result<(), Entry>
-    requires { (p ≤ base + length scene.now.events.now) × (base ≤ p) × (p ≤ base + 4) }
-    ensures safe { Safe (p % 5) grid.old grid.new result }
-    ensures brings { (P : TheTable) (k : Registers) (w : World) → Watched K.Kind.class scene.now base P w
-        → ((q : ℕ) → base ≤ q → q < p → Tracks K.Kind.class P k w q grid.old (q % 5))
-        → Brings K.Kind.class (p % 5) P k w p grid.old grid.new
-        (incoming P w (λ q. row_at K.Kind.class grid.old.cap (grid_of grid.old) (q % 5)) p base (p - base)) result }
+    ensures safe { Safe (position.now.number % 5) grid.old grid.new result }
+    ensures brings { (P : TheTable) (k : Registers) (w : World) → Watched K.Kind.class position.now.scene.now P w
+        → ((q : ℕ) → position.now.scene.now.base ≤ q → q < position.now.number → Tracks K.Kind.class P k w q grid.old (q % 5))
+        → Brings K.Kind.class (position.now.number % 5) P k w position.now.number grid.old grid.new
+        (incoming P w (λ q. row_at K.Kind.class grid.old.cap (grid_of grid.old) (q % 5)) position.now.number position.now.scene.now.base (position.now.number - position.now.scene.now.base)) result }
 {
-    for q in base..p {
+    let base = position.scene.base;
+    for q in base..position.number {
+        let scene = position.scene.past(q - base);
         let way = Way {
-            from: q - base,
-            distance: p - q,
-            slot: p % 5,
+            distance: position.number - q,
+            slot: Slot::of(position.number),
         };
-        step_row::<K>(grid, scene, way, q % 5)?;
+        step_row::<K>(grid, &scene, way)?;
     }
     Ok(())
 }
 
-// Fills position p from the positions before it, down to `base`.
+// Fills a position from those before it, from the scene's first on.
 pub(crate) fn fill_position<K: Kind>(
     grid: &mut Grid<K::Value>,
-    scene: &Scene<'_, K::Value>,
-    base: usize,
-    p: usize,
+    position: &Position<'_, K::Value>,
 ) -> Filling
-    requires { (p ≤ base + length scene.now.events.now) × (base ≤ p) × (p ≤ base + 4) }
-    ensures safe { Safe (p % 5) grid.old grid.new (first_error result) }
-    ensures fills { (P : TheTable) (k : Registers) (L : List Happening) (w : World) → Watched K.Kind.class scene.now base P w
-        → Ready K.Kind.class grid.old.cap (grid_of grid.old) base p P k L w
-        → Fills K.Kind.class grid.old.cap (grid_of grid.old) (grid_of grid.new) p P k w result }
+    ensures safe { Safe (position.now.number % 5) grid.old grid.new (first_error result) }
+    ensures fills { (P : TheTable) (k : Registers) (L : List Happening) (w : World) → Watched K.Kind.class position.now.scene.now P w
+        → Ready K.Kind.class grid.old.cap (grid_of grid.old) position.now.scene.now.base position.now.number P k L w
+        → Fills K.Kind.class grid.old.cap (grid_of grid.old) (grid_of grid.new) position.now.number P k w result }
 {
     grid.front.spilled = false;
-    match step_rows::<K>(grid, scene, base, p) {
+    match step_rows::<K>(grid, position) {
         Err(entry) => Filling::Broken(entry),
         Ok(()) => {
             if grid.front.spilled {

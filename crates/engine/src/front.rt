@@ -3,6 +3,7 @@ ghost use Rattle.std.specs.Prelude.{◌≡◌, ℕ, ◌+◌, ◌*◌, ◌<◌, �
 ghost use Rattle.engine.specs.Fronts.{Added, Bare, Cleared, states_at};
 
 use crate::entry::Entry;
+use crate::slot::Slot;
 
 // Sixty-four places for each of five positions, of which the first `counts` are in use; whether more configurations came than may be.
 // Kept two arrays in step: a row's states are searched as one slice, and the watch allocates nothing once it is made.
@@ -15,28 +16,18 @@ pub struct Front {
     pub spilled: bool,
 }
 
-// What became of a configuration that came to a position.
+// The way that moves take: over `distance` events, to the position that has this place of the five.
 #[derive(Clone, Copy)]
-pub enum Arrival {
-    Added,
-    Held,
-    Spilled,
-}
-
-// The way that moves take: from event `from` of the window, over `distance` events, to the position that has place `slot` of the five.
-#[derive(Clone, Copy)]
-pub struct Way {
-    pub from: usize,
-    pub distance: usize,
-    pub slot: usize,
-    ghost five: { slot < 5 },
+pub(crate) struct Way {
+    pub(crate) distance: usize,
+    pub(crate) slot: Slot,
 }
 
 // A configuration's state, and its entry in the book.
 #[derive(Clone, Copy)]
-pub struct Mark {
-    pub state: u8,
-    pub entry: u16,
+pub(crate) struct Mark {
+    pub(crate) state: u8,
+    pub(crate) entry: u16,
 }
 
 // What a position is once it is filled; where `error` is reached, by which step from which entry.
@@ -48,11 +39,18 @@ pub enum Filling {
     Stands,
 }
 
-// What the deciding rule comes to. Where the watch breaks: at which position, and by which step from which entry.
+// Where a run reaches `error`, and the last step of the run that is shown.
+#[derive(Clone, Copy)]
+pub struct Breach {
+    pub position: usize,
+    pub last: Entry,
+}
+
+// What the deciding rule comes to.
 // Kept an enum of answers, which `judge` hands on by hand: definitions give what each of them means.
 #[derive(Clone, Copy)]
 pub enum Ruling {
-    Breaks(usize, Entry),
+    Breaks(Breach),
     Spills,
     Overfills,
     GoesOn,
@@ -72,43 +70,42 @@ impl Front {
     }
 
     // The states at a position.
-    pub(crate) fn states_of(&self, slot: usize) -> &[u8]
-        requires { (slot < 5) × (slice_index self.now.counts slot ≤ 64) }
-        ensures are { result.now ≡ states_at self.now slot }
-        ensures long { length result.now ≡ slice_index self.now.counts slot }
+    pub(crate) fn states_of(&self, slot: Slot) -> &[u8]
+        requires { slice_index self.now.counts slot.at ≤ 64 }
+        ensures are { result.now ≡ states_at self.now slot.at }
+        ensures long { length result.now ≡ slice_index self.now.counts slot.at }
     {
-        let from = 64 * slot;
-        let to = from + self.counts[slot];
+        let from = 64 * slot.at;
+        let to = from + self.counts[slot.at];
         &self.states[from..to]
     }
 
     // The state and the entry of configuration i of a position.
-    pub(crate) fn mark_at(&self, slot: usize, i: usize) -> Mark
-        requires { (slot < 5) × (i < 64) × (length self.now.states ≡ 320) × (length self.now.entries ≡ 320) }
-        ensures { result ≡ record { state = slice_index self.now.states (64 * slot + i); entry = slice_index self.now.entries (64 * slot + i) } }
+    pub(crate) fn mark_at(&self, slot: Slot, i: usize) -> Mark
+        requires { (i < 64) × (length self.now.states ≡ 320) × (length self.now.entries ≡ 320) }
+        ensures { result ≡ record { state = slice_index self.now.states (64 * slot.at + i); entry = slice_index self.now.entries (64 * slot.at + i) } }
     {
         Mark {
-            state: self.states[64 * slot + i],
-            entry: self.entries[64 * slot + i],
+            state: self.states[64 * slot.at + i],
+            entry: self.entries[64 * slot.at + i],
         }
     }
 
     // Takes all configurations from a position.
-    pub(crate) fn clear(&mut self, slot: usize)
-        requires { slot < 5 }
-        ensures { Cleared self.old self.new slot }
+    pub(crate) fn clear(&mut self, slot: Slot)
+        ensures { Cleared self.old self.new slot.at }
     {
-        self.counts[slot] = 0;
+        self.counts[slot.at] = 0;
     }
 
     // One configuration more at a position that has room: its state, and its entry in the book.
-    pub(crate) fn add(&mut self, slot: usize, state: u8, entry: u16)
-        requires { (slot < 5) × (slice_index self.old.counts slot < 64) × ((k : ℕ) → slice_index self.old.counts k ≤ 64) }
-        ensures { Added self.old self.new slot state entry }
+    pub(crate) fn add(&mut self, slot: Slot, state: u8, entry: u16)
+        requires { (slice_index self.old.counts slot.at < 64) × ((k : ℕ) → slice_index self.old.counts k ≤ 64) }
+        ensures { Added self.old self.new slot.at state entry }
     {
-        let count = self.counts[slot];
-        self.states[64 * slot + count] = state;
-        self.entries[64 * slot + count] = entry;
-        self.counts[slot] = count + 1;
+        let count = self.counts[slot.at];
+        self.states[64 * slot.at + count] = state;
+        self.entries[64 * slot.at + count] = entry;
+        self.counts[slot.at] = count + 1;
     }
 }

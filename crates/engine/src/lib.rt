@@ -3,6 +3,7 @@
 
 pub mod attempt;
 pub mod book;
+mod configuration;
 pub mod entry;
 pub mod fill;
 pub mod front;
@@ -16,6 +17,7 @@ pub mod row;
 pub mod rows;
 pub mod scene;
 pub mod settle;
+mod slot;
 pub mod state;
 pub mod table;
 pub mod window;

@@ -1,20 +1,17 @@
 // The table of a property, as code holds it.
-ghost use Rattle.std.specs.Prelude.{◌≡◌, ◌≤◌, true, map, length, nat_lt};
-ghost use Rattle.topl.specs.Lists.{every};
+ghost use Rattle.std.specs.Prelude.{◌≡◌, ◌≤◌, true, length};
 ghost use Rattle.topl.specs.Table.{is_lawful, empty_table};
-ghost use Rattle.engine.specs.Views.{sound};
 ghost use Rattle.engine.specs.Properties.{table};
 
-use crate::table::{Method, Statement};
+use crate::table::{Method, Register, Statement};
 use std::alloc::Global;
 
 // The declared methods, the registers of the constants in order of first appearance, and the written statements.
 #[derive(Drop)]
 pub struct Table {
     methods: Vec<Method>,
-    constants: Vec<u8>,
+    constants: Vec<Register>,
     statements: Vec<Statement>,
-    ghost sound: { every sound statements.items ≡ true },
     ghost lawful: { is_lawful (table methods.items constants.items statements.items) ≡ true },
 }
 
@@ -37,10 +34,9 @@ impl Table {
         &self.methods
     }
 
-    // The registers of the constants, which are among the eight.
-    pub fn constants(&self) -> &[u8]
-        ensures are { result.now ≡ self.now.constants.items }
-        ensures registers { every (λ n. nat_lt n 8) result.now ≡ true }
+    // The registers of the constants.
+    pub fn constants(&self) -> &[Register]
+        ensures { result.now ≡ self.now.constants.items }
     {
         &self.constants
     }
@@ -48,7 +44,6 @@ impl Table {
     // The written statements, at most 64.
     pub(crate) fn statements(&self) -> &[Statement]
         ensures are { result.now ≡ self.now.statements.items }
-        ensures sound { every sound result.now ≡ true }
         ensures few { length result.now ≤ 64 }
     {
         &self.statements

@@ -1,38 +1,19 @@
 // What a watch remembers of an event, and forgets.
-ghost use Rattle.std.specs.Prelude.{◌≡◌, ℕ, ◌+◌, ◌-◌, ◌≤◌, List, [], ◌∷◌, ◌++◌, length, drop, if◌then◌else◌, slice_index_or};
-ghost use Rattle.topl.specs.Table.{Event as Happening, calls};
+ghost use Rattle.std.specs.Prelude.{◌≡◌, ℕ, ◌+◌, ◌-◌, ◌≤◌, List, [], ◌∷◌, ◌++◌, length, drop};
+ghost use Rattle.topl.specs.Table.{Event as Happening};
 ghost use Rattle.topl.specs.Theorems.{seen as shown, value_places};
 ghost use Rattle.engine.specs.Windows.{Remembers};
 
 use crate::window::{Window, Witnessed};
 use kinds::kind::Kind;
+use sources::event::make::place_of;
 use std::array;
-
-// Value i of those that were given, nothing where there are fewer.
-fn value_of<K: Kind>(values: &[K::Value], i: usize) -> K::Value
-    ensures { result ≡ slice_index_or values.now i K.Kind.nothing }
-{
-    values.get(i).copied().unwrap_or(K::nothing())
-}
-
-// What stands at place i of an event: 0 has the returned value, 1 to 5 the parameters.
-fn place_of<K: Kind>(id: u32, values: &[K::Value], i: usize) -> K::Value
-    ensures { result ≡ slice_index_or (if calls id then K.Kind.nothing ∷ values.now else values.now) i K.Kind.nothing }
-{
-    if id % 2 == 1 {
-        value_of::<K>(values, i)
-    } else if i == 0 {
-        K::nothing()
-    } else {
-        value_of::<K>(values, i - 1)
-    }
-}
 
 // The six places of an event.
 fn places_for<K: Kind>(id: u32, values: &[K::Value]) -> [K::Value; 6]
     ensures { result ≡ value_places K.Kind.nothing id values.now }
 {
-    array::from_fn(|i| place_of::<K>(id, values, i))
+    array::from_fn(|i| place_of(K::nothing(), id, values, i))
 }
 
 // Forgets the first of four events: no statement that starts there can wait any more.

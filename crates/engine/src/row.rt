@@ -1,31 +1,27 @@
 // Rows of configurations: states and entries on the front, registers on the board.
-ghost use Rattle.std.specs.Prelude.{◌≡◌, ℕ, ◌+◌, ◌*◌, ◌<◌, ◌≤◌, map, length, take, drop, vec_len};
+ghost use Rattle.std.specs.Prelude.{◌≡◌, ℕ, ◌+◌, ◌*◌, ◌<◌, ◌≤◌, [], length, take, drop, slice_index, slice_index_or, vec_len};
 ghost use Rattle.topl.specs.Lists.{holds};
-ghost use Rattle.topl.specs.Runs.{alikeᶜ};
-ghost use Rattle.engine.specs.Fronts.{configuration, row, stored, Arrives};
+ghost use Rattle.topl.specs.Runs.{alikeᶜ, first_configuration};
+ghost use Rattle.engine.specs.Fronts.{stands_for, row, stored, row_at, count_at, entries_at, Arrives};
 ghost use Rattle.engine.specs.Grids.{grid_of};
 
+use crate::configuration::{Configuration, Entered};
 use crate::entry::Entry;
-use crate::front::Arrival;
 use crate::grid::Grid;
+use crate::slot::Slot;
 use kinds::kind::Kind;
 
 // Does a row hold a configuration, that is one of its state with registers of the same classes?
-pub(crate) fn find<K: Kind>(
-    states: &[u8],
-    values: &[K::Value],
-    state: u8,
-    registers: &[K::Value; 8],
-) -> bool
+pub(crate) fn find<K: Kind>(states: &[u8], values: &[K::Value], c: &Configuration<K::Value>) -> bool
     requires { 8 * length states.now ≤ length values.now }
-    ensures { result ≡ holds alikeᶜ (row K.Kind.class states.now values.now) (configuration K.Kind.class state registers.now) }
+    ensures { result ≡ holds alikeᶜ (row K.Kind.class states.now values.now) (stands_for K.Kind.class c.now) }
 {
     // Kept a nested search over stored configurations and registers, left by a label: a fixed form of the project.
     'configurations: for (i, s) in states.iter().enumerate() {
-        if *s != state {
+        if *s != c.state {
             continue 'configurations;
         }
-        for (r, value) in registers.iter().enumerate() {
+        for (r, value) in c.registers.iter().enumerate() {
             if !K::same(value, &values[8 * i + r]) {
                 continue 'configurations;
             }
@@ -36,18 +32,17 @@ pub(crate) fn find<K: Kind>(
 }
 
 // Where a position's part of the board starts.
-pub(crate) fn start(cap: usize, slot: usize) -> usize
-    requires { (slot < 5) × (cap ≤ 64) }
-    ensures at { result ≡ slot * (8 * cap) }
+pub(crate) fn start(cap: usize, slot: Slot) -> usize
+    requires { cap ≤ 64 }
+    ensures at { result ≡ slot.at * (8 * cap) }
     ensures within { result + 8 * cap ≤ 40 * cap }
 {
-    slot * (8 * cap)
+    slot.at * (8 * cap)
 }
 
 // A position's part of the board.
-fn part_of<V: Copy>(grid: &Grid<V>, slot: usize) -> &[V]
-    requires { slot < 5 }
-    ensures is { result.now ≡ take (8 * grid.now.cap) (drop (slot * (8 * grid.now.cap)) grid.now.board.items) }
+fn part_of<V: Copy>(grid: &Grid<V>, slot: Slot) -> &[V]
+    ensures is { result.now ≡ take (8 * grid.now.cap) (drop (slot.at * (8 * grid.now.cap)) grid.now.board.items) }
     ensures long { length result.now ≡ 8 * grid.now.cap }
 {
     let from = start(grid.cap, slot);
@@ -70,12 +65,12 @@ pub(crate) fn write_at<V: Copy>(part: &mut [V], from: usize, values: &[V])
 pub(crate) fn put_configuration<V: Copy>(
     rows: &mut [V],
     cap: usize,
-    slot: usize,
+    slot: Slot,
     i: usize,
     registers: &[V; 8],
 )
-    requires { (slot < 5) × (cap ≤ 64) × (40 * cap ≤ length rows.old) × (i < cap) }
-    ensures { rows.new ≡ stored rows.old (slot * (8 * cap) + 8 * i) registers.now }
+    requires { (cap ≤ 64) × (40 * cap ≤ length rows.old) × (i < cap) }
+    ensures { rows.new ≡ stored rows.old (slot.at * (8 * cap) + 8 * i) registers.now }
 {
     let from = start(cap, slot);
     let to = from + 8 * cap;
@@ -84,9 +79,9 @@ pub(crate) fn put_configuration<V: Copy>(
 }
 
 // The registers of configuration i of a position.
-pub(crate) fn registers_at<K: Kind>(grid: &Grid<K::Value>, slot: usize, i: usize) -> [K::Value; 8]
-    requires { (slot < 5) × (i < grid.now.cap) }
-    ensures are { result ≡ take 8 (drop (8 * i) (drop (slot * (8 * grid.now.cap)) grid.now.board.items)) }
+fn registers_at<K: Kind>(grid: &Grid<K::Value>, slot: Slot, i: usize) -> [K::Value; 8]
+    requires { i < grid.now.cap }
+    ensures are { result ≡ take 8 (drop (8 * i) (drop (slot.at * (8 * grid.now.cap)) grid.now.board.items)) }
     ensures eight { length result ≡ 8 }
 {
     let from = start(grid.cap, slot) + 8 * i;
@@ -96,34 +91,50 @@ pub(crate) fn registers_at<K: Kind>(grid: &Grid<K::Value>, slot: usize, i: usize
     held
 }
 
-// A configuration comes to a position, by a step from an entry: it is added and entered unless the position holds it, or has `cap` already.
+// Configuration i of a position, with its entry.
+pub(crate) fn entered_at<K: Kind>(grid: &Grid<K::Value>, slot: Slot, i: usize) -> Entered<K::Value>
+    requires { i < count_at grid.now.front slot.at }
+    ensures stands { stands_for K.Kind.class result.configuration ≡ slice_index_or (row_at K.Kind.class grid.now.cap (grid_of grid.now) slot.at) i (first_configuration []) }
+    ensures entry { result.entry ≡ slice_index (entries_at grid.now.front slot.at) i }
+    ensures known { result.entry < grid.now.book.used }
+{
+    let mark = grid.front.mark_at(slot, i);
+    let registers = registers_at::<K>(grid, slot, i);
+    Entered {
+        configuration: Configuration {
+            state: mark.state,
+            registers,
+        },
+        entry: mark.entry,
+    }
+}
+
+// The position has as many configurations as it may have.
+#[derive(Clone, Copy)]
+pub(crate) struct Crowded;
+
+// A configuration comes to a position, by a step from an entry: unless the position holds it, it is added and entered.
 pub(crate) fn arrive<K: Kind>(
     grid: &mut Grid<K::Value>,
-    slot: usize,
+    slot: Slot,
     from: Entry,
-    state: u8,
-    registers: &[K::Value; 8],
-) -> Arrival
-    requires { (slot < 5) × (from.parent < grid.old.book.used) }
-    ensures arrives { Arrives K.Kind.class grid.old.cap (grid_of grid.old) (grid_of grid.new) slot from (configuration K.Kind.class state registers.now) result }
+    c: &Configuration<K::Value>,
+) -> Result<(), Crowded>
+    requires { from.parent < grid.old.book.used }
+    ensures arrives { Arrives K.Kind.class grid.old.cap (grid_of grid.old) (grid_of grid.new) slot.at from (stands_for K.Kind.class c.now) result }
     ensures cap { grid.new.cap ≡ grid.old.cap }
     ensures board { vec_len grid.new.board ≡ vec_len grid.old.board }
 {
     let cap = grid.cap;
-    let count = grid.front.counts[slot];
-    if find::<K>(
-        grid.front.states_of(slot),
-        part_of(grid, slot),
-        state,
-        registers,
-    ) {
-        return Arrival::Held;
+    let count = grid.front.counts[slot.at];
+    if find::<K>(grid.front.states_of(slot), part_of(grid, slot), c) {
+        return Ok(());
     }
     if count >= cap {
-        return Arrival::Spilled;
+        return Err(Crowded);
     }
     let entry = grid.book.enter(from);
-    grid.front.add(slot, state, entry);
-    put_configuration(&mut grid.board, cap, slot, count, registers);
-    Arrival::Added
+    grid.front.add(slot, c.state, entry);
+    put_configuration(&mut grid.board, cap, slot, count, &c.registers);
+    Ok(())
 }

@@ -9,7 +9,7 @@ ghost use Rattle.engine.specs.Meant.{meant};
 ghost use Rattle.engine.specs.States.{Follows, ComesTo, Stays};
 ghost use Rattle.engine.specs.Opening.{Opens};
 
-use crate::book::Book;
+use crate::book::{Book, MOST_ENTRIES};
 use crate::entry::Entry;
 use crate::front::{Front, Ruling};
 use crate::grid::Grid;
@@ -18,12 +18,10 @@ use crate::open::open_rows;
 use crate::property::Table;
 use crate::remember::{forget, witness};
 use crate::settle::settle;
+use crate::slot::Slot;
 use crate::state::State;
 use crate::window::{Window, Witnessed};
 use kinds::kind::Kind;
-
-// So many events are judged at most: fewer than the book has entries.
-const MOST_EVENTS: usize = 16_384;
 
 // The table, the values, the cap, the board and the book do not suit each other.
 #[derive(Clone, Copy, Debug)]
@@ -105,11 +103,11 @@ impl<K: Kind> Rows<K> {
             → ComesTo self.old.state self.new.state (meant table.now) k L (so_far (L ++ shown K.Kind.class id values.now ∷ [])) result
             × (result ≡ GoesOn → Follows K.Kind.class self.new.state (meant table.now) k (L ++ shown K.Kind.class id values.now ∷ [])) }
     {
-        let judged = judged.min(MOST_EVENTS);
+        let judged = judged.min(MOST_ENTRIES);
         let state = &mut self.state;
         forget::<K>(&mut state.window);
         witness::<K>(&mut state.window, id, values);
-        state.grid.front.clear((judged + 1) % 5);
+        state.grid.front.clear(Slot::of(judged + 1));
         settle::<K>(state, table, Mode::Settled, judged.saturating_sub(3))
     }
 
@@ -122,7 +120,7 @@ impl<K: Kind> Rows<K> {
             → Follows K.Kind.class self.old.state (meant table.now) k L
             → ComesTo self.old.state self.new.state (meant table.now) k L (closing L) result }
     {
-        let judged = judged.min(MOST_EVENTS);
+        let judged = judged.min(MOST_ENTRIES);
         let state = &mut self.state;
         forget::<K>(&mut state.window);
         settle::<K>(state, table, Mode::Closed, judged.saturating_sub(3))

@@ -37,8 +37,9 @@ pub(crate) fn settle<K: Kind>(
     let events = &window.events[..seen];
     let scene = Scene {
         statements: table.statements(),
+        base,
         events,
         mode,
     };
-    judge::<K>(&mut s.grid, &scene, base, base + seen)
+    judge::<K>(&mut s.grid, &scene)
 }

@@ -1,4 +1,7 @@
 // A property's statements as code holds them.
+ghost use Rattle.std.specs.Prelude.{◌≡◌, ◌<◌, ◌≤◌, length};
+
+use topl::pattern::Pattern;
 
 // A declared method: its number, and how many values a call has.
 #[derive(Clone, Copy)]
@@ -7,20 +10,29 @@ pub struct Method {
     pub arity: usize,
 }
 
-// What one place of an event has to be: any value; any, which is written to a register; the value of a register; any other.
+// One of the eight registers.
 #[derive(Clone, Copy)]
-pub enum Pattern {
-    Any,
-    Write(u8),
-    Same(u8),
-    Differs(u8),
+pub struct Register {
+    at: u8,
+    ghost eight: { at < 8 },
 }
 
-// An event of this id whose places from 0 on fit the patterns, at most six.
+impl Register {
+    // Its place among the eight.
+    pub(crate) fn place(self) -> usize
+        ensures is { result ≡ self.at }
+        ensures eight { result < 8 }
+    {
+        usize::from(self.at)
+    }
+}
+
+// An event of this id whose places from 0 on fit the patterns.
 #[derive(Drop)]
 pub struct Guard {
     pub id: u32,
-    pub patterns: Vec<Pattern>,
+    pub patterns: Vec<Pattern<Register>>,
+    ghost six: { length patterns.items ≤ 6 },
 }
 
 // What one event has to meet: nothing at all, or a guard. No Option, whose None would read as a matcher that nothing meets.
@@ -36,6 +48,8 @@ pub struct Statement {
     pub source: u8,
     pub target: u8,
     pub events: Vec<Matcher>,
+    ghost some: { 1 ≤ length events.items },
+    ghost few: { length events.items ≤ 4 },
 }
 
 // A statement with its number.
@@ -45,6 +59,8 @@ pub struct Numbered<'a> {
     pub source: u8,
     pub target: u8,
     pub events: &'a [Matcher],
+    ghost some: { 1 ≤ length events.now },
+    ghost few: { length events.now ≤ 4 },
 }
 
 // How a statement fares on the events that come next.

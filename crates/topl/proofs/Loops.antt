@@ -1,5 +1,5 @@
 -- How rows fill, one configuration after the other: the laws of the loops that fill them.
-use Rattle.std.proofs.Common.{◌≡◌, ℕ, zero, suc, ◌+◌, ◌<◌, Bool, true, false, cond, not, ◌||◌, eqb, ◌⊎◌, List, [], ◌∷◌, ◌++◌, length, get_or, take, sym, refl, ap, ◌∙◌, subst, inl, inr, ⊎_elim, true≢false, append_assoc, arith}
+use Rattle.std.proofs.Common.{◌≡◌, ℕ, ◌+◌, ◌<◌, Bool, true, false, cond, not, ◌||◌, eqb, ◌⊎◌, List, [], ◌∷◌, ◌++◌, length, get_or, take, sym, refl, ap, ◌∙◌, subst, inl, inr, ⊎_elim, true≢false, append_assoc, arith}
 use mathlib.Core.Bool.{false≢true}
 use Rattle.std.proofs.lemmas.List.{append-nil, length_push, take_more}
 use Rattle.std.proofs.lemmas.Bool.{and_parts, and_from, or_cases, or_left, or_right, or_from, cases_Bool, not-true, not_from_false}
@@ -108,17 +108,12 @@ pub error_late : (xs ys : List Configuration) → any_error ys ≡ true → any_
 error_late xs ys h = error_append xs ys ∙ or_right (any_error xs) (any_error ys) h
 
 module _ {X : Type 0} (f : X → List Configuration) where
-  each_append : (xs ys : List X) → each f (xs ++ ys) ≡ each f xs ++ each f ys
+  pub each_append : (xs ys : List X) → each f (xs ++ ys) ≡ each f xs ++ each f ys
   each_append [] ys = refl
   each_append (x ∷ xs) ys = ap (λ z. f x ++ z) (each_append xs ys) ∙ sym (append_assoc (f x) (each f xs) (each f ys))
 
   pub each_more : (xs : List X) (i : ℕ) (d : X) → i < length xs → each f (take (i + 1) xs) ≡ each f (take i xs) ++ f (get_or xs i d)
   each_more xs i d l = ap (each f) (take_more xs i d l) ∙ (each_append (take i xs) (get_or xs i d ∷ []) ∙ ap (λ z. each f (take i xs) ++ z) (append-nil (f (get_or xs i d))))
-
-  pub each_error : (xs : List X) (i : ℕ) (d : X) → i < length xs → any_error (f (get_or xs i d)) ≡ true → any_error (each f xs) ≡ true
-  each_error [] i d l h = absurd (omega arith)
-  each_error (x ∷ xs) zero d l h = error_early (f x) (each f xs) h
-  each_error (x ∷ xs) (suc i) d l h = error_late (f x) (each f xs) (each_error xs i d (omega arith) h)
 
 error_moves : (xs ys : List Configuration) → ((c : Configuration) → holds alikeᶜ xs c ≡ true → holds alikeᶜ ys c ≡ true) → any_error xs ≡ true → any_error ys ≡ true
 error_moves xs ys f h = let r = any_error_sound xs h in any_error_complete ys (holds-∈ alikeᶜ_tests ys r.0 (f r.0 (∈-holds alikeᶜ_tests r.1))) r.2

@@ -1,13 +1,12 @@
 -- The moves out of a configuration, statement by statement, and what they bring to a position: the laws of the loops that make them.
-use Rattle.std.proofs.Common.{◌≡◌, ℕ, zero, suc, ◌+◌, ◌<◌, ◌≤◌, Bool, true, false, cond, ◌&&◌, eqb, List, [], ◌∷◌, ◌++◌, length, get_or, take, drop, sym, refl, ap, ◌∙◌, ap₂, append_assoc, arith}
-use Rattle.std.proofs.lemmas.List.{append-nil, take_more, drop-drop, drop_more, drop_all, take-append-drop}
+use Rattle.std.proofs.Common.{◌≡◌, ℕ, zero, suc, ◌+◌, ◌<◌, ◌≤◌, Bool, true, false, cond, ◌&&◌, ◌||◌, eqb, List, [], ◌∷◌, ◌++◌, length, get_or, take, drop, sym, refl, ap, ◌∙◌, true≢false, append_assoc, arith}
+use Rattle.std.proofs.lemmas.List.{append-nil, take_more, drop_more, drop_all, take-append-drop}
 use Rattle.std.proofs.lemmas.Bool.{cond-true, cond-false, eq-eqb, ne_eqb}
 use Rattle.topl.specs.Lists.{each}
-use Rattle.topl.specs.Table.{Statement, Table, count_from, implied, matchers, numbered, span}
-use Rattle.topl.specs.Runs.{Configuration, Landing, Mode, Outcome, Registers, World, calm, calms, fails, fares, hangs, has_come, landing_of, lands, moves, outcome_of, passes, passing, quiet, skips}
+use Rattle.topl.specs.Table.{Statement, Table, count_from, error, implied, numbered, span}
+use Rattle.topl.specs.Runs.{Configuration, Landing, Outcome, Registers, World, calm, calms, fails, hangs, has_come, landing_of, lands, moves, outcome_of, passes, passing, quiet, skips}
 use Rattle.topl.specs.Rows.{incoming, landed}
 use Rattle.topl.specs.Deciding.{any_error}
-use Rattle.topl.proofs.Loops.{error_early, error_late}
 
 length_count : (n : ℕ) (ts : List Statement) → length (count_from n ts) ≡ suc (length ts)
 length_count n [] = refl
@@ -50,84 +49,68 @@ module _ (w : World) (p : ℕ) (c : Configuration) where
   passing_more q ts i l =
       ap (λ z. landed q (passing w p c z)) (take_more ts i (65, implied) l) ∙ (ap (landed q) (passing_push (take i ts) (get_or ts i (65, implied))) ∙ landed_append q (passing w p c (take i ts)) (lands w p c (get_or ts i (65, implied))))
 
-module _ (w : World) (base from : ℕ) (c : Configuration) (t : ℕ × Statement) (S : Statement) (e : t.1 ≡ S) where
-  pub fared : outcome_of w (base + from) c t ≡ fares (matchers S) c.registers (drop from (drop base w.events))
-  fared = ap (λ z. fares (matchers z) c.registers (drop (base + from) w.events)) e ∙ ap (fares (matchers S) c.registers) (sym (drop-drop from base w.events))
+-- does a statement let a skip from q go on
+module _ (w : World) (q : ℕ) (c : Configuration) (t : ℕ × Statement) where
+  pub calms_away : (t.1.source ≡ c.state → ⊥) → calms w q c t ≡ true
+  calms_away n = cond-false (eqb t.1.source c.state) (calm w.mode (outcome_of w q c t)) true (ne_eqb t.1.source c.state n)
 
-  off : (S.source ≡ c.state → ⊥) → eqb t.1.source c.state ≡ false
-  off n = ne_eqb t.1.source c.state (λ q. n (ap (λ z. z.source) (sym e) ∙ q))
+  pub calms_here : t.1.source ≡ c.state → calms w q c t ≡ calm w.mode (outcome_of w q c t)
+  calms_here e = cond-true (eqb t.1.source c.state) (calm w.mode (outcome_of w q c t)) true (eq-eqb t.1.source c.state e)
 
-  fits_state : S.source ≡ c.state → eqb t.1.source c.state ≡ true
-  fits_state n = eq-eqb t.1.source c.state (ap (λ z. z.source) e ∙ n)
+-- what a statement brings from q to p
+module _ (w : World) (q : ℕ) (c : Configuration) (t : ℕ × Statement) (p : ℕ) where
+  pub lands_away : (t.1.source ≡ c.state → ⊥) → landed p (lands w q c t) ≡ []
+  lands_away n = ap (landed p) (cond-false (eqb t.1.source c.state) (landing_of q t (outcome_of w q c t)) [] (ne_eqb t.1.source c.state n))
 
-  pub calms_away : (S.source ≡ c.state → ⊥) → calms w (base + from) c t ≡ true
-  calms_away n = cond-false (eqb t.1.source c.state) (calm w.mode (outcome_of w (base + from) c t)) true (off n)
+  pub lands_far : (q + span t.1 ≡ p → ⊥) → landed p (lands w q c t) ≡ []
+  lands_far n = go (eqb t.1.source c.state) (outcome_of w q c t)
+    where
+      go : (b : Bool) (o : Outcome) → landed p (cond b (landing_of q t o) []) ≡ []
+      go false o = refl
+      go true (passes s) = cond-false _ _ _ (ne_eqb (q + span t.1) p n)
+      go true fails = refl
+      go true hangs = refl
 
-  pub calms_here : S.source ≡ c.state → (b : Bool) (mode : Mode) → w.mode ≡ mode → b ≡ calm mode (fares (matchers S) c.registers (drop from (drop base w.events))) → calms w (base + from) c t ≡ b
-  calms_here n b mode m h = cond-true (eqb t.1.source c.state) (calm w.mode (outcome_of w (base + from) c t)) true (fits_state n) ∙ (ap₂ calm m fared ∙ sym h)
+  pub lands_passes : t.1.source ≡ c.state → q + span t.1 ≡ p → (s : Registers) → passes s ≡ outcome_of w q c t → landed p (lands w q c t) ≡ record { state = t.1.target; registers = s } ∷ []
+  lands_passes n e s h =
+      ap (landed p) (cond-true (eqb t.1.source c.state) (landing_of q t (outcome_of w q c t)) [] (eq-eqb t.1.source c.state n) ∙ ap (landing_of q t) (sym h))
+      ∙ cond-true (eqb (q + span t.1) p) (record { state = t.1.target; registers = s } ∷ []) [] (eq-eqb (q + span t.1) p e)
 
-  module _ (p : ℕ) where
-    pub lands_away : (S.source ≡ c.state → ⊥) → landed p (lands w (base + from) c t) ≡ []
-    lands_away n = ap (landed p) (cond-false (eqb t.1.source c.state) (landing_of (base + from) t (outcome_of w (base + from) c t)) [] (off n))
-
-    pub lands_far : (base + from + span S ≡ p → ⊥) → landed p (lands w (base + from) c t) ≡ []
-    lands_far n = go (eqb t.1.source c.state) (outcome_of w (base + from) c t)
-      where
-        far : eqb (base + from + span t.1) p ≡ false
-        far = ne_eqb (base + from + span t.1) p (λ q. n (ap (λ z. base + from + span z) (sym e) ∙ q))
-
-        go : (b : Bool) (o : Outcome) → landed p (cond b (landing_of (base + from) t o) []) ≡ []
-        go false o = refl
-        go true (passes s) = cond-false _ _ _ far
-        go true fails = refl
-        go true hangs = refl
-
-    pub lands_passes : S.source ≡ c.state → base + from + span S ≡ p → (s : Registers) → passes s ≡ fares (matchers S) c.registers (drop from (drop base w.events)) →
-        landed p (lands w (base + from) c t) ≡ record { state = S.target; registers = s } ∷ []
-    lands_passes n q s h =
-        let near : eqb (base + from + span t.1) p ≡ true = eq-eqb (base + from + span t.1) p (ap (λ z. base + from + span z) e ∙ q) in
-        ap (landed p) (cond-true (eqb t.1.source c.state) (landing_of (base + from) t (outcome_of w (base + from) c t)) [] (fits_state n) ∙ ap (landing_of (base + from) t) (fared ∙ sym h))
-        ∙ (cond-true (eqb (base + from + span t.1) p) (record { state = t.1.target; registers = s } ∷ []) [] near ∙ ap (λ z. record { state = z.target; registers = s } ∷ []) e)
-
-    pub lands_fails : fails ≡ fares (matchers S) c.registers (drop from (drop base w.events)) → landed p (lands w (base + from) c t) ≡ []
-    lands_fails h = go (eqb t.1.source c.state) (outcome_of w (base + from) c t) (fared ∙ sym h)
-      where
-        go : (b : Bool) (o : Outcome) → o ≡ fails → landed p (cond b (landing_of (base + from) t o) []) ≡ []
-        go false o i = refl
-        go true o i = ap (λ z. landed p (landing_of (base + from) t z)) i
-
-    pub lands_hangs : hangs ≡ fares (matchers S) c.registers (drop from (drop base w.events)) → landed p (lands w (base + from) c t) ≡ []
-    lands_hangs h = go (eqb t.1.source c.state) (outcome_of w (base + from) c t) (fared ∙ sym h)
-      where
-        go : (b : Bool) (o : Outcome) → o ≡ hangs → landed p (cond b (landing_of (base + from) t o) []) ≡ []
-        go false o i = refl
-        go true o i = ap (λ z. landed p (landing_of (base + from) t z)) i
+  -- where it does not pass
+  pub lands_not : landing_of q t (outcome_of w q c t) ≡ [] → landed p (lands w q c t) ≡ []
+  lands_not h = go (eqb t.1.source c.state)
+    where
+      go : (b : Bool) → landed p (cond b (landing_of q t (outcome_of w q c t)) []) ≡ []
+      go true = ap (landed p) h
+      go false = refl
 
 module _ (w : World) (p : ℕ) (c : Configuration) where
   passing_append : (ts us : List (ℕ × Statement)) → passing w p c (ts ++ us) ≡ passing w p c ts ++ passing w p c us
   passing_append [] us = refl
   passing_append (t ∷ ts) us = ap (λ z. lands w p c t ++ z) (passing_append ts us) ∙ sym (append_assoc (lands w p c t) (passing w p c ts) (passing w p c us))
 
-  -- an error among the first ones is one among all
-  pub passing_front : (q k : ℕ) (ts : List (ℕ × Statement)) → any_error (landed q (passing w p c (take k ts))) ≡ true → any_error (landed q (passing w p c ts)) ≡ true
-  passing_front q k ts h =
-      ap (λ z. any_error (landed q (passing w p c z))) (sym (take-append-drop k ts))
-      ∙ (ap (λ z. any_error (landed q z)) (passing_append (take k ts) (drop k ts))
-      ∙ (ap any_error (landed_append w p c q (passing w p c (take k ts)) (passing w p c (drop k ts))) ∙ error_early (landed q (passing w p c (take k ts))) (landed q (passing w p c (drop k ts))) h))
+  -- the first statements, and the rest
+  pub passing_split : (q k : ℕ) (ts : List (ℕ × Statement)) → landed q (passing w p c ts) ≡ landed q (passing w p c (take k ts)) ++ landed q (passing w p c (drop k ts))
+  passing_split q k ts =
+      ap (λ z. landed q (passing w p c z)) (sym (take-append-drop k ts))
+      ∙ (ap (landed q) (passing_append (take k ts) (drop k ts)) ∙ landed_append w p c q (passing w p c (take k ts)) (passing w p c (drop k ts)))
 
-module _ (P : Table) (w : World) (base from : ℕ) (c : Configuration) where
-  pub skips_late : length (drop base w.events) ≤ from → skips P w (base + from) c ≡ []
-  skips_late l =
-      let e : drop (base + from) w.events ≡ [] = sym (drop-drop from base w.events) ∙ drop_all from (drop base w.events) l in
-      ap (λ z. cond (has_come z && quiet w (base + from) c (numbered P)) ((0, suc (base + from), c) ∷ []) []) e
+module _ (P : Table) (w : World) (q : ℕ) (c : Configuration) where
+  pub skips_late : length w.events ≤ q → skips P w q c ≡ []
+  skips_late l = ap (λ z. cond (has_come z && quiet w q c (numbered P)) ((0, suc q, c) ∷ []) []) (drop_all q w.events l)
 
-  pub skips_here : from < length (drop base w.events) → true ≡ quiet w (base + from) c (numbered P) → (d : ℕ) → d ≡ 1 → landed (base + from + d) (skips P w (base + from) c) ≡ c ∷ []
-  skips_here l h d one =
-      let e : drop (base + from) w.events ≡ get_or (drop base w.events) from (record { id = 0; values = [] }) ∷ drop (from + 1) (drop base w.events) =
-      sym (drop-drop from base w.events) ∙ drop_more (drop base w.events) from (record { id = 0; values = [] }) l in
-      let q : eqb (suc (base + from)) (base + from + d) ≡ true = eq-eqb (suc (base + from)) (base + from + d) (omega arith) in
-      ap (λ z. landed (base + from + d) (cond (has_come z && quiet w (base + from) c (numbered P)) ((0, suc (base + from), c) ∷ []) [])) e
-      ∙ (ap (λ b. landed (base + from + d) (cond b ((0, suc (base + from), c) ∷ []) [])) (sym h) ∙ cond-true _ _ _ q)
+  pub skips_here : q < length w.events → quiet w q c (numbered P) ≡ true → (p : ℕ) → suc q ≡ p → landed p (skips P w q c) ≡ c ∷ []
+  skips_here l h p e =
+      ap (λ z. landed p (cond (has_come z && quiet w q c (numbered P)) ((0, suc q, c) ∷ []) [])) (drop_more w.events q (record { id = 0; values = [] }) l)
+      ∙ (ap (λ b. landed p (cond b ((0, suc q, c) ∷ []) [])) h ∙ cond-true _ _ _ (eq-eqb (suc q) p e))
+
+error_behind : (xs ys zs : List Configuration) → (any_error ys ≡ true → any_error zs ≡ true) → any_error (xs ++ ys) ≡ true → any_error (xs ++ zs) ≡ true
+error_behind [] ys zs f h = f h
+error_behind (x ∷ xs) ys zs f h = go (eqb x.state error) (error_behind xs ys zs f) h
+  where
+    go : (b : Bool) → (any_error (xs ++ ys) ≡ true → any_error (xs ++ zs) ≡ true) → (b || any_error (xs ++ ys)) ≡ true → (b || any_error (xs ++ zs)) ≡ true
+    go true i e = refl
+    go false i e = i e
 
 -- what one position more brings
 module _ (P : Table) (w : World) (row : ℕ → List Configuration) (p : ℕ) where
@@ -141,13 +124,12 @@ module _ (P : Table) (w : World) (row : ℕ → List Configuration) (p : ℕ) wh
       ap (incoming P w row p b) h ∙ (ap (λ z. each (λ c. landed p (moves P w b c)) (row b) ++ z) (incoming_more (suc b) n q (n + 1) (omega arith) refl)
       ∙ sym (append_assoc (each (λ c. landed p (moves P w b c)) (row b)) (incoming P w row p (suc b) n) (each (λ c. landed p (moves P w q c)) (row q))))
 
-  -- an error from one position is one from all
-  pub incoming_error : (b n q k : ℕ) → b + k ≡ q → k < n → any_error (each (λ c. landed p (moves P w q c)) (row q)) ≡ true → any_error (incoming P w row p b n) ≡ true
-  incoming_error b zero q k e l h = absurd (omega arith)
-  incoming_error b (suc n) q zero e l h =
-      let g : q ≡ b = omega arith in
-      error_early (each (λ c. landed p (moves P w b c)) (row b)) (incoming P w row p (suc b) n) (ap (λ (z : ℕ). any_error (each (λ c. landed p (moves P w z c)) (row z))) (sym g) ∙ h)
-  incoming_error b (suc n) q (suc k) e l h = error_late (each (λ c. landed p (moves P w b c)) (row b)) (incoming P w row p (suc b) n) (incoming_error (suc b) n q k (omega arith) (omega arith) h)
+  -- an error from the first positions is one from more of them
+  pub incoming_front : (b n m : ℕ) → m ≤ n → any_error (incoming P w row p b m) ≡ true → any_error (incoming P w row p b n) ≡ true
+  incoming_front b zero zero l h = h
+  incoming_front b (suc n) zero l h = absurd (true≢false (sym h))
+  incoming_front b zero (suc m) l h = absurd (omega arith)
+  incoming_front b (suc n) (suc m) l h = error_behind (each (λ c. landed p (moves P w b c)) (row b)) (incoming P w row p (suc b) m) (incoming P w row p (suc b) n) (incoming_front (suc b) n m (omega arith)) h
 
 pub each_same : (P : Table) (w : World) {a a' b b' : ℕ} {r r' : List Configuration} → a ≡ a' → b ≡ b' → r ≡ r' → each (λ c. landed a (moves P w b c)) r ≡ each (λ c. landed a' (moves P w b' c)) r'
 each_same P w {a} {a'} {b} {b'} {r} {r'} e f g =

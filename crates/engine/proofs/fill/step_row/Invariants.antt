@@ -1,18 +1,14 @@
-use Rattle.std.proofs.Common.{ℕ, ◌+◌, take, Ok}
-use Rattle.topl.specs.Lists.{each}
+use Rattle.std.proofs.Common.{ℕ, ◌+◌, ◌%◌, Ok}
 use Rattle.topl.specs.Table.{Table}
-use Rattle.topl.specs.Runs.{Registers, World, moves}
-use Rattle.topl.specs.Rows.{landed}
-use Rattle.engine.specs.Fronts.{row_at}
-use Rattle.engine.specs.Grids.{grid_of}
+use Rattle.topl.specs.Runs.{Registers, World}
 use Rattle.engine.specs.Fills.{Watched, Safe, Tracks, Brings}
+use Rattle.engine.proofs.Steps.{brought_from}
 use Rattle.engine.proofs.fill.step_row.Given as goal
 
 abbrev pub invariant-loop-i : goal.invariant-loop-i
 invariant-loop-i g l = record {
-  safe : Safe l.way.slot l.initial.grid l.grid (Ok tt);
-  brings : (base : ℕ) (P : Table) (k : Registers) (w : World) → Watched g.K.Kind.class l.scene base P w →
-      Tracks g.K.Kind.class P k w (base + l.way.from) l.initial.grid l.source →
-      Brings g.K.Kind.class l.way.slot P k w (base + l.way.from + l.way.distance) l.initial.grid l.grid
-      (each (λ c. landed (base + l.way.from + l.way.distance) (moves P w (base + l.way.from) c)) (take l.i (row_at g.K.Kind.class l.initial.grid.cap (grid_of l.initial.grid) l.source))) (Ok tt);
+  safe : Safe l.way.slot.at l.fn.grid l.grid (Ok tt);
+  brings : (P : Table) (k : Registers) (w : World) → Watched g.K.Kind.class l.scene P w → Tracks g.K.Kind.class P k w l.scene.base l.fn.grid (l.scene.base % 5) →
+      Brings g.K.Kind.class l.way.slot.at P k w (l.scene.base + l.way.distance) l.fn.grid l.grid
+      (brought_from P w l.scene.base (l.scene.base + l.way.distance) g.K.Kind.class l.fn.grid (l.scene.base % 5) l.i) (Ok tt);
 }

@@ -1,88 +1,79 @@
-use Rattle.std.proofs.Common.{◌≡◌, ℕ, suc, ◌≤◌, refl, ap, sym, ◌∙◌, subst, arith}
+use Rattle.std.proofs.Common.{◌≡◌, suc, ◌+◌, ◌≤◌, length, refl, ap, ◌∙◌, arith}
 use Rattle.engine.specs.Grids.{grid_of}
-use Rattle.engine.specs.Fills.{Ready}
-use Rattle.engine.specs.Judging.{shown_entry, Judged}
+use Rattle.engine.specs.Judging.{shown_entry}
 use Rattle.engine.proofs.Fills.{room_by}
-use Rattle.engine.proofs.Judging.{along_start, along_ready, along_balance, along_decides, along_more, along_end}
+use Rattle.engine.proofs.Judging.{along_start, along_decides, along_more, along_end}
 use Rattle.engine.proofs.judge.judge.Goals as goal
 
-pub loop-p-init : goal.loop-p-init
-loop-p-init g c =
-    let s = c.args.grid.now in record {
+pub loop-number-init : goal.loop-number-init
+loop-number-init g c =
+    let s = c.args.grid.now in
+    let scene = c.args.scene.now in
+    let few = scene.short in
+    record {
       cap = refl;
       board = refl;
       long = refl;
-      along = λ P k L w W S. along_start g.K.Kind.class s.cap c.args.base c.args.last P k L w (grid_of s) S c.requires.2;
+      along = λ P k L w W S. along_start g.K.Kind.class s.cap scene.base (scene.base + length scene.events.now) P k L w (grid_of s) S (omega arith);
     }
 
 pub returns-in_default : goal.returns-in_default
 returns-in_default g c =
-    let class = g.K.Kind.class in
     let s = c.args.grid.now in
-    let G₀ = grid_of s in
-    let s₂ = c.loop-p.grid in
-    let G₂ = grid_of s₂ in
-    let G₃ = grid_of c.judge_position.new.grid in
-    let base = c.args.base in
-    let last = c.args.last in
-    let I = c.loop-p.invariant in
+    let s₂ = c.loop-number.grid in
+    let scene = c.args.scene.now in
+    let last = scene.base + length scene.events.now in
+    let few = scene.short in
+    let I = c.loop-number.invariant in
     let X = c.judge_position.ensures.safe in
+    let p = c.loop-number.number in
+    let low : scene.base ≤ p = c.loop-number.auto.number in
+    let high : p ≤ last = omega (arith, c.loop-number-test.true) in
     record {
       cap = X.cap ∙ I.cap;
       board = X.board ∙ I.board;
       long = X.long ∙ I.long;
-      known = λ p x e. X.known x (ap shown_entry e);
+      known = λ b e. X.known b.last (ap shown_entry e);
       decides = λ P k L w W S.
-          let p = c.loop-p.p in
-          let low : base ≤ p = c.loop-p.auto.p in
-          let high : p ≤ last = omega (arith, c.loop-p-test.true) in
-          let R₂ = room_by s.cap s₂ I.cap in
-          let A = I.along P k L w W S in
-          let ready = along_ready class s.cap base last P k L w G₀ S c.requires.2 p G₂ I.long R₂ A low high in
-          let balance = along_balance class s.cap base last P k L w G₀ S c.requires.2 p G₂ I.long R₂ A low high in
-          let J₀ = c.judge_position.ensures.rules P k L w W (subst (λ (z : ℕ). Ready class z G₂ base p P k L w) (sym I.cap) ready) balance in
-          let J = subst (λ (z : ℕ). Judged class z G₂ G₃ p P k L w c.judge_position.result) I.cap J₀ in
-          along_decides class s.cap base last P k L w G₀ S c.requires.2 p G₂ I.long R₂ A low high G₃ c.judge_position.result X.spares J c.in_default.not-GoesOn;
+          along_decides g.K.Kind.class s.cap scene.base last P k L w (grid_of s) S (omega arith) p (grid_of s₂) I.long (room_by s.cap s₂ I.cap) (I.along P k L w W S) low high
+          (grid_of c.judge_position.new.grid) c.judge_position.result X.spares s₂.cap I.cap (c.judge_position.ensures.rules P k L w W) c.in_default.not-GoesOn;
     }
 
-pub loop-p-preserved : goal.loop-p-preserved
-loop-p-preserved g c =
-    let class = g.K.Kind.class in
+pub loop-number-preserved : goal.loop-number-preserved
+loop-number-preserved g c =
     let s = c.args.grid.now in
-    let G₀ = grid_of s in
-    let s₂ = c.loop-p.grid in
-    let G₂ = grid_of s₂ in
-    let G₃ = grid_of c.judge_position.new.grid in
-    let base = c.args.base in
-    let last = c.args.last in
-    let I = c.loop-p.invariant in
+    let s₂ = c.loop-number.grid in
+    let scene = c.args.scene.now in
+    let last = scene.base + length scene.events.now in
+    let few = scene.short in
+    let I = c.loop-number.invariant in
     let X = c.judge_position.ensures.safe in
+    let p = c.loop-number.number in
+    let low : scene.base ≤ p = c.loop-number.auto.number in
+    let high : p ≤ last = omega (arith, c.loop-number-test.true) in
     record {
       cap = X.cap ∙ I.cap;
       board = X.board ∙ I.board;
       long = X.long ∙ I.long;
       along = λ P k L w W S.
-          let p = c.loop-p.p in
-          let low : base ≤ p = c.loop-p.auto.p in
-          let high : p ≤ last = omega (arith, c.loop-p-test.true) in
-          let R₂ = room_by s.cap s₂ I.cap in
-          let A = I.along P k L w W S in
-          let ready = along_ready class s.cap base last P k L w G₀ S c.requires.2 p G₂ I.long R₂ A low high in
-          let balance = along_balance class s.cap base last P k L w G₀ S c.requires.2 p G₂ I.long R₂ A low high in
-          let J₀ = c.judge_position.ensures.rules P k L w W (subst (λ (z : ℕ). Ready class z G₂ base p P k L w) (sym I.cap) ready) balance in
-          let J = subst (λ (z : ℕ). Judged class z G₂ G₃ p P k L w c.judge_position.result) I.cap J₀ in
-          along_more class s.cap base last P k L w G₀ S c.requires.2 p G₂ I.long R₂ A low high G₃ c.judge_position.result X.spares J c.in-GoesOn.is;
+          along_more g.K.Kind.class s.cap scene.base last P k L w (grid_of s) S (omega arith) p (grid_of s₂) I.long (room_by s.cap s₂ I.cap) (I.along P k L w W S) low high
+          (grid_of c.judge_position.new.grid) c.judge_position.result X.spares s₂.cap I.cap (c.judge_position.ensures.rules P k L w W) c.in-GoesOn.is;
     }
 
-pub returns : goal.returns
-returns g c =
+pub returns-in-GoesOn-clause-decides : goal.returns-in-GoesOn-clause-decides
+returns-in-GoesOn-clause-decides g c P k L w W S =
     let s = c.args.grid.now in
-    let I = c.loop-p.invariant in record {
-      cap = I.cap;
-      board = I.board;
-      long = I.long;
-      known = λ p x e. absurd (let z : ◌≡◌ {A = ℕ} 0 1 = cc in omega arith);
-      decides = λ P k L w W S.
-          let e : c.loop-p.p ≡ suc c.args.last = omega arith in
-          along_end g.K.Kind.class s.cap c.args.base c.args.last P k L w (grid_of s) S c.requires.2 c.loop-p.p (grid_of c.loop-p.grid) (I.along P k L w W S) e;
-    }
+    let s₂ = c.loop-number.grid in
+    let j = grid_of c.judge_position.new.grid in
+    let scene = c.args.scene.now in
+    let last = scene.base + length scene.events.now in
+    let few = scene.short in
+    let I = c.loop-number.invariant in
+    let X = c.judge_position.ensures.safe in
+    let p = c.loop-number.number in
+    let low : scene.base ≤ p = c.loop-number.auto.number in
+    let high : p ≤ last = omega (arith, c.loop-number-test.true) in
+    let e : p + 1 ≡ suc last = omega arith in
+    along_end g.K.Kind.class s.cap scene.base last P k L w (grid_of s) S (omega arith) (p + 1) j
+    (along_more g.K.Kind.class s.cap scene.base last P k L w (grid_of s) S (omega arith) p (grid_of s₂) I.long (room_by s.cap s₂ I.cap) (I.along P k L w W S) low high j
+    c.judge_position.result X.spares s₂.cap I.cap (c.judge_position.ensures.rules P k L w W) c.in-GoesOn.is) e
