@@ -24,14 +24,3 @@ loop-r-preserved g c =
     alike_step g.K.Kind.class c.args.states.now c.args.values.now d c.configurations.i c.configurations-test.true c.requires
     c.loop-r.r x c.index-values-i.result c.same.result true (omega (arith, c.loop-r-test.true)) (ap (λ z. get_or d.registers c.loop-r.r z) c.value-item.is) c.index-values-i.is c.same.ensures c.if-not-same.false c.loop-r.invariant
 
-pub returns-in-configurations : goal.returns-in-configurations
-returns-in-configurations g c =
-    let d = c.args.c.now in
-    let eight = d.eight in
-    let e : c.loop-r.r ≡ 8 = omega arith in
-    search_found g.K.Kind.class c.args.states.now c.args.values.now d c.configurations.i c.configurations-test.true c.requires c.configurations.invariant c.if-s-c.false
-    (alike_done g.K.Kind.class c.args.states.now c.args.values.now d c.configurations.i c.configurations-test.true c.requires
-    (subst (AlikeFrom g.K.Kind.class c.args.states.now c.args.values.now d c.configurations.i c.configurations-test.true c.requires) e c.loop-r.invariant))
-
-pub returns : goal.returns
-returns g c = search_none g.K.Kind.class c.args.states.now c.args.values.now (stands_for g.K.Kind.class c.args.c.now) c.configurations.i c.configurations-test.false c.configurations.invariant
