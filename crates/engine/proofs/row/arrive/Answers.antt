@@ -1,4 +1,4 @@
-use Rattle.std.proofs.Common.{◌≡◌, ◌+◌, ◌*◌, ◌<◌, length, vec_items, sym, refl, ap, ◌∙◌, subst, inl, inr, arith}
+use Rattle.std.proofs.Common.{◌+◌, ◌*◌, ◌<◌, vec_items, sym, refl, ap, ◌∙◌, subst, inl, inr, arith}
 use Rattle.topl.specs.Lists.{holds}
 use Rattle.topl.specs.Runs.{alikeᶜ}
 use Rattle.engine.specs.Fronts.{stands_for, count_at, grid, Room, Comes}
@@ -39,8 +39,8 @@ returns-clause-arrives g c =
     let f = fits_in class s.cap slot c.args.c.now.state c.enter-entry.result G H rs (vec_items b.entries) b.used c.args.slot.five s.room l eight c.add.ensures in
     let u = ap (λ z. holds alikeᶜ z (stands_for class c.args.c.now)) (sym e) ∙ (sym c.find.ensures ∙ c.if-find.false) in
     inr (subst (λ z. Comes class s.cap G (grid H z (vec_items b.entries) b.used) slot c.args.from (stands_for class c.args.c.now))
-          (sym (board_put s.board c.deref_mut.result.now c.put_configuration.new.rows rs (slot * (8 * s.cap) + 8 * count_at s.front slot) c.deref_mut.ensures.value c.put_configuration.ensures f eight))
-          (comes class s.cap slot c.args.c.now.state c.enter-entry.result G H rs (vec_items b.entries) b.used c.args.slot.five s.room l eight c.add.ensures c.args.from c.enter-entry.ensures u))
+    (sym (board_put s.board c.deref_mut.result.now c.put_configuration.new.rows rs (slot * (8 * s.cap) + 8 * count_at s.front slot) c.deref_mut.ensures.value c.put_configuration.ensures f eight))
+    (comes class s.cap slot c.args.c.now.state c.enter-entry.result G H rs (vec_items b.entries) b.used c.args.slot.five s.room l eight c.add.ensures c.args.from c.enter-entry.ensures u))
 
 pub invariant_of-grid : goal.invariant_of-grid
 invariant_of-grid g c =

@@ -1,6 +1,6 @@
 use Rattle.std.proofs.Common.{◌≡◌, length, vec_items, sym, ap, ◌∙◌, arith}
 use Rattle.engine.specs.Trails.{steps_to}
-use Rattle.engine.proofs.Trails.{steps_few, steps_none, read_link, read_low, read_count}
+use Rattle.engine.proofs.Trails.{steps_few, steps_none, read_low, read_count}
 use Rattle.engine.proofs.book.Book.depth.Goals as goal
 
 pub overflow_add-count : goal.overflow_add-count

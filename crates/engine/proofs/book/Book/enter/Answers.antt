@@ -1,5 +1,5 @@
 use Rattle.std.proofs.Common.{vec_items, refl, arith}
-use Rattle.engine.proofs.Trails.{entered, unentered}
+use Rattle.engine.proofs.Trails.{entered}
 use Rattle.engine.proofs.book.Book.enter.Goals as goal
 
 pub returns : goal.returns

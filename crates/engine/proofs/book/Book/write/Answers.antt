@@ -1,6 +1,6 @@
-use Rattle.std.proofs.Common.{◌≡◌, ◌+◌, ◌≤◌, [], ◌∷◌, ◌++◌, length, take, drop, vec_items, sym, ap, ◌∙◌, append-nil, arith, length-append, take-append-drop}
+use Rattle.std.proofs.Common.{◌≡◌, ◌+◌, ◌≤◌, [], ◌∷◌, length, drop, vec_items, ap, ◌∙◌, arith, length-append}
 use Rattle.engine.specs.Trails.{steps_to}
-use Rattle.engine.proofs.Trails.{steps_none, steps_some, read_link, read_low, read_steps, fill_back, filled_page}
+use Rattle.engine.proofs.Trails.{steps_none, steps_some, read_low, read_steps, fill_back, filled_page}
 use Rattle.engine.proofs.book.Book.write.Goals as goal
 
 pub overflow_sub-left : goal.overflow_sub-left
