@@ -50,31 +50,6 @@ module _ (w : World) (p : ℕ) (c : Configuration) where
   passing_more q ts i l =
       ap (λ z. landed q (passing w p c z)) (take_more ts i (65, implied) l) ∙ (ap (landed q) (passing_push (take i ts) (get_or ts i (65, implied))) ∙ landed_append q (passing w p c (take i ts)) (lands w p c (get_or ts i (65, implied))))
 
-  quiet_push : (ts : List (ℕ × Statement)) (t : ℕ × Statement) → quiet w p c (ts ++ t ∷ []) ≡ (quiet w p c ts && calms w p c t)
-  quiet_push [] t = last (calms w p c t)
-    where
-      last : (b : Bool) → (b && true) ≡ b
-      last true = refl
-      last false = refl
-  quiet_push (u ∷ ts) t = ap (λ z. calms w p c u && z) (quiet_push ts t) ∙ assoc (calms w p c u) (quiet w p c ts) (calms w p c t)
-    where
-      assoc : (a b d : Bool) → (a && (b && d)) ≡ ((a && b) && d)
-      assoc true b d = refl
-      assoc false b d = refl
-
-  pub quiet_more : (ts : List (ℕ × Statement)) (i : ℕ) → i < length ts → quiet w p c (take (i + 1) ts) ≡ (quiet w p c (take i ts) && calms w p c (get_or ts i (65, implied)))
-  quiet_more ts i l = ap (quiet w p c) (take_more ts i (65, implied) l) ∙ quiet_push (take i ts) (get_or ts i (65, implied))
-
-  -- one that is not calm is enough
-  pub loud : (ts : List (ℕ × Statement)) (i : ℕ) → i < length ts → calms w p c (get_or ts i (65, implied)) ≡ false → quiet w p c ts ≡ false
-  loud [] i l h = absurd (omega arith)
-  loud (t ∷ ts) zero l h = and_left (calms w p c t) (quiet w p c ts) h
-  loud (t ∷ ts) (suc i) l h = right (calms w p c t) (quiet w p c ts) (loud ts i (omega arith) h)
-    where
-      right : (a b : Bool) → b ≡ false → (a && b) ≡ false
-      right true b e = e
-      right false b e = refl
-
 -- does a statement let a skip from q go on
 module _ (w : World) (q : ℕ) (c : Configuration) (t : ℕ × Statement) where
   pub calms_away : (t.1.source ≡ c.state → ⊥) → calms w q c t ≡ true
@@ -85,18 +60,6 @@ module _ (w : World) (q : ℕ) (c : Configuration) (t : ℕ × Statement) where
 
 -- what a statement brings from q to p
 module _ (w : World) (q : ℕ) (c : Configuration) (t : ℕ × Statement) (p : ℕ) where
-  pub lands_away : (t.1.source ≡ c.state → ⊥) → landed p (lands w q c t) ≡ []
-  lands_away n = ap (landed p) (cond-false (eqb t.1.source c.state) (landing_of q t (outcome_of w q c t)) [] (ne_eqb t.1.source c.state n))
-
-  pub lands_far : (q + span t.1 ≡ p → ⊥) → landed p (lands w q c t) ≡ []
-  lands_far n = go (eqb t.1.source c.state) (outcome_of w q c t)
-    where
-      go : (b : Bool) (o : Outcome) → landed p (cond b (landing_of q t o) []) ≡ []
-      go false o = refl
-      go true (passes s) = cond-false _ _ _ (ne_eqb (q + span t.1) p n)
-      go true fails = refl
-      go true hangs = refl
-
   pub lands_passes : t.1.source ≡ c.state → q + span t.1 ≡ p → (s : Registers) → passes s ≡ outcome_of w q c t → landed p (lands w q c t) ≡ record { state = t.1.target; registers = s } ∷ []
   lands_passes n e s h =
       ap (landed p) (cond-true (eqb t.1.source c.state) (landing_of q t (outcome_of w q c t)) [] (eq-eqb t.1.source c.state n) ∙ ap (landing_of q t) (sym h))
@@ -122,9 +85,6 @@ module _ (w : World) (p : ℕ) (c : Configuration) where
       ∙ (ap (landed q) (passing_append (take k ts) (drop k ts)) ∙ landed_append w p c q (passing w p c (take k ts)) (passing w p c (drop k ts)))
 
 module _ (P : Table) (w : World) (q : ℕ) (c : Configuration) where
-  pub skips_late : length w.events ≤ q → skips P w q c ≡ []
-  skips_late l = ap (λ z. cond (has_come z && quiet w q c (numbered P)) ((0, suc q, c) ∷ []) []) (drop_all q w.events l)
-
   pub skips_here : q < length w.events → quiet w q c (numbered P) ≡ true → (p : ℕ) → suc q ≡ p → landed p (skips P w q c) ≡ c ∷ []
   skips_here l h p e =
       ap (λ z. landed p (cond (has_come z && quiet w q c (numbered P)) ((0, suc q, c) ∷ []) [])) (drop_more w.events q (record { id = 0; values = [] }) l)
