@@ -1,5 +1,5 @@
 -- How a row fills, and its entries with it.
-use Rattle.std.proofs.Common.{◌≡◌, ℕ, suc, ◌+◌, ◌*◌, ◌<◌, ◌≤◌, Bool, true, false, cond, ◌&&◌, ◌||◌, List, [], ◌∷◌, ◌++◌, length, get_or, drop, Ok, Err, Result, vec_items, vec_len, sym, refl, ap, ◌∙◌, subst, inl, inr, ⊎_elim, true≢false, append_assoc, arith}
+use Rattle.std.proofs.Common.{◌≡◌, ℕ, suc, ◌+◌, ◌<◌, ◌≤◌, Bool, true, false, cond, ◌&&◌, ◌||◌, List, [], ◌∷◌, ◌++◌, length, get_or, drop, Ok, Err, Result, vec_items, vec_len, sym, refl, ap, ◌∙◌, subst, inl, inr, ⊎_elim, true≢false, append_assoc, arith}
 use Rattle.std.proofs.lemmas.List.{append-nil, get_or_append_left, get_or_push}
 use Rattle.std.proofs.lemmas.Bool.{or_right, or_from, cases_lt, cond-false, ne_eqb, and_right}
 use Rattle.std.specs.Result.{is_err}
@@ -152,51 +152,7 @@ module _ {V : Type 0} (class : V → Class) (cap : ℕ) (P : T.Table) (k : Regis
     brought_on (Err x) a b = (error_append xs ys ∙ or_right (any_error xs) (any_error ys) b.0, b.1)
     brought_on (Ok _) a b = (error_append xs ys ∙ or_from (any_error xs) (any_error ys) a.0 b.0, grows_on a.1 b.1)
 
--- a skip leads to the next position only, and nowhere where some statement is loud
-module _ (P : T.Table) (w : World) (q : ℕ) where
-  pub far_skips : (d : ℕ) (c : Configuration) → (d ≡ 1 → ⊥) → landed (q + d) (skips P w q c) ≡ []
-  far_skips d c n = go (has_come (drop q w.events) && quiet w q c (T.numbered P))
-    where
-      go : (b : Bool) → landed (q + d) (cond b ((0, suc q, c) ∷ []) []) ≡ []
-      go true = cond-false _ _ _ (ne_eqb (suc q) (q + d) (λ e. n (omega arith)))
-      go false = refl
-
-  pub loud_skips : (p : ℕ) (c : Configuration) → quiet w q c (T.numbered P) ≡ false → landed p (skips P w q c) ≡ []
-  loud_skips p c h = ap (λ b. landed p (cond b ((0, suc q, c) ∷ []) [])) (and_right (has_come (drop q w.events)) (quiet w q c (T.numbered P)) h)
-
--- Whatever the events are.
-module _ {V : Type 0} (slot : ℕ) (g : G.Grid V) where
-  -- nothing is told
-  pub safe_ok : (h : G.Grid V) → h.cap ≡ g.cap → vec_len h.board ≡ vec_len g.board → g.book.used ≤ h.book.used → Spares slot g.front h.front → length (vec_items h.book.entries) ≡ length (vec_items g.book.entries) → Safe slot g h (Ok tt)
-  safe_ok h c b m s l = record { cap = c; board = b; more = m; spares = s; long = l; known = λ x e. absurd (ok_err x e) }
-    where
-      ok_err : (x : Entry) → ◌≡◌ {A = Result (Unit {0}) Entry} (Ok tt) (Err x) → ⊥
-      ok_err x e = let z : ◌≡◌ {A = ℕ} 0 1 = cc in omega arith
-
-  pub safe_none : Safe slot g g (Ok tt)
-  safe_none = safe_ok g refl refl (omega arith) (λ k n. (refl, refl)) refl
-
-  -- nothing came
-  pub safe_same : (h : G.Grid V) → h.cap ≡ g.cap → vec_len h.board ≡ vec_len g.board → grid_of h ≡ grid_of g → Safe slot g h (Ok tt)
-  safe_same h c b e =
-      let u = ap (λ (z : Grid V). z.used) e in
-      safe_ok h c b (omega arith) (λ k n. (ap (λ (z : Grid V). count_at z.front k) e, ap (λ (z : Grid V). entries_at z.front k) e)) (ap (λ (z : Grid V). length z.book) e)
-
-  pub safe_spilled : (h : G.Grid V) → h.cap ≡ g.cap → vec_len h.board ≡ vec_len g.board → grid_of h ≡ spill (grid_of g) → Safe slot g h (Ok tt)
-  safe_spilled h c b e =
-      let u = ap (λ (z : Grid V). z.used) e in
-      safe_ok h c b (omega arith) (λ k n. (ap (λ (z : Grid V). count_at z.front k) e, ap (λ (z : Grid V). entries_at z.front k) e)) (ap (λ (z : Grid V). length z.book) e)
-
-  pub safe_comes : (class : V → Class) (h : G.Grid V) (from : Entry) (c : Configuration) → h.cap ≡ g.cap → vec_len h.board ≡ vec_len g.board → Comes class g.cap (grid_of g) (grid_of h) slot from c → Safe slot g h (Ok tt)
-  safe_comes class h from c k b C = safe_ok h k b C.enters.more C.spares C.enters.long
-
-  pub safe_told : (x : Entry) → x.parent < g.book.used → Safe slot g g (Err x)
-  safe_told x l = record { cap = refl; board = refl; more = omega arith; spares = λ k n. (refl, refl); long = refl; known = λ y e. subst (λ (o : Result (Unit {0}) Entry). Told o) e l }
-    where
-      Told : Result (Unit {0}) Entry → Type 0
-      Told (Ok _) = Unit {0}
-      Told (Err y) = y.parent < g.book.used
-
+-- whatever the events are
 pub safe_on : {V : Type 0} (slot : ℕ) (g h j : G.Grid V) (r : Result (Unit {0}) Entry) → Safe slot g h (Ok tt) → Safe slot h j r → Safe slot g j r
 safe_on slot g h j r A B = record {
   cap = B.cap ∙ A.cap;

@@ -39,13 +39,6 @@ module _ {V : Type 0} (class : V → Class) (states : List ℕ) (values : List V
       ∙ ap (λ z. z && alike same_class (drop (r + 1) (map class c.registers)) (drop (r + 1) (map class (take 8 (drop (8 * i) values)))))
       (ap (same_class (at (map class c.registers) r)) (sym d) ∙ (sym (same_at class c.registers r x y a (omega arith) ix h) ∙ ab)))
 
-  pub alike_done : AlikeFrom 8 → alike same_class (map class c.registers) (map class (take 8 (drop (8 * i) values))) ≡ true
-  unfolding here long
-  alike_done inv =
-      let g = long in
-      let eight = c.eight in
-      inv ∙ ap₂ (alike same_class) (drop_all 8 (map class c.registers) (simp length-map (omega arith))) (drop_all 8 (map class (take 8 (drop (8 * i) values))) (simp length-map (omega arith)))
-
   one : Searched i → holds alikeᶜ (row class states values) (stands_for class c)
       ≡ cond (eqb c.state (get_or states i 0) && alike same_class (map class c.registers) (map class (take 8 (drop (8 * i) values)))) true (holds alikeᶜ (row class (drop (i + 1) states) (drop (8 * (i + 1)) values)) (stands_for class c))
   one inv =
@@ -62,11 +55,3 @@ module _ {V : Type 0} (class : V → Class) (states : List ℕ) (values : List V
 
   pub search_register : Searched i → alike same_class (map class c.registers) (map class (take 8 (drop (8 * i) values))) ≡ false → Searched (i + 1)
   search_register inv h = search_not inv (and_right (eqb c.state (get_or states i 0)) (alike same_class (map class c.registers) (map class (take 8 (drop (8 * i) values)))) h)
-
-  pub search_found : Searched i → get_or states i 0 ≡ c.state → alike same_class (map class c.registers) (map class (take 8 (drop (8 * i) values))) ≡ true → true ≡ holds alikeᶜ (row class states values) (stands_for class c)
-  search_found inv q h =
-      sym (one inv ∙ cond-true _ _ _ (and_from (eqb c.state (get_or states i 0)) (alike same_class (map class c.registers) (map class (take 8 (drop (8 * i) values)))) (eq-eqb c.state (get_or states i 0) (sym q)) h))
-
-pub search_none : {V : Type 0} (class : V → Class) (states : List ℕ) (values : List V) (c : Configuration) (i : ℕ) → length states ≤ i →
-    holds alikeᶜ (row class states values) c ≡ holds alikeᶜ (row class (drop i states) (drop (8 * i) values)) c → false ≡ holds alikeᶜ (row class states values) c
-search_none class states values c i l inv = sym (inv ∙ ap (λ z. holds alikeᶜ (row class z (drop (8 * i) values)) c) (drop_all i states l))

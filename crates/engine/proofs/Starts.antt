@@ -16,7 +16,7 @@ use Rattle.topl.proofs.Step.{stepping}
 use Rattle.topl.proofs.Resume.{watching, beyond}
 use Rattle.engine.specs.declared.front.Front.{Front}
 use Rattle.engine.specs.Trails.{room_of, steps_to}
-use Rattle.engine.specs.Fronts.{count_at, entries_at, row_at, row, Grid, grid, Room, Cleared, Below}
+use Rattle.engine.specs.Fronts.{count_at, entries_at, row_at, row, Grid, grid, Cleared}
 use Rattle.engine.specs.Fills.{Tracked}
 use Rattle.engine.specs.Judging.{Held, Start}
 

@@ -140,10 +140,6 @@ module _ (es : List Entry) (used : ℕ) (x : Entry) (linked : Linked es used) (r
     );
   }
 
--- no room for it
-pub unentered : (es : List Entry) (used : ℕ) (x : Entry) → x.parent < used → room_of es ≤ used → Enters es used x es used x.parent
-unentered es used x known full = record { known = known; more = omega arith; long = refl; old = λ k h. refl; new = λ l. absurd (omega (arith, l, full)) }
-
 -- the steps to an entry and one more, in the front of a page
 pub page_written : (ss page after : List ℕ) (v n : ℕ) → n ≡ length ss → n < length page → after ≡ ss ++ drop (length ss) page →
     (n + 1 ≡ length (ss ++ (v ∷ []))) × (set after n v ≡ (ss ++ (v ∷ [])) ++ drop (length (ss ++ (v ∷ []))) page)

@@ -104,9 +104,6 @@ error_append (x ∷ xs) ys = ap (λ b. eqb x.state 1 || b) (error_append xs ys) 
 pub error_early : (xs ys : List Configuration) → any_error xs ≡ true → any_error (xs ++ ys) ≡ true
 error_early xs ys h = error_append xs ys ∙ or_left (any_error xs) (any_error ys) h
 
-pub error_late : (xs ys : List Configuration) → any_error ys ≡ true → any_error (xs ++ ys) ≡ true
-error_late xs ys h = error_append xs ys ∙ or_right (any_error xs) (any_error ys) h
-
 module _ {X : Type 0} (f : X → List Configuration) where
   pub each_append : (xs ys : List X) → each f (xs ++ ys) ≡ each f xs ++ each f ys
   each_append [] ys = refl

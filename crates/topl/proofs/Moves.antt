@@ -59,18 +59,6 @@ module _ (w : World) (q : ℕ) (c : Configuration) (t : ℕ × Statement) where
 
 -- what a statement brings from q to p
 module _ (w : World) (q : ℕ) (c : Configuration) (t : ℕ × Statement) (p : ℕ) where
-  pub lands_away : (t.1.source ≡ c.state → ⊥) → landed p (lands w q c t) ≡ []
-  lands_away n = ap (landed p) (cond-false (eqb t.1.source c.state) (landing_of q t (outcome_of w q c t)) [] (ne_eqb t.1.source c.state n))
-
-  pub lands_far : (q + span t.1 ≡ p → ⊥) → landed p (lands w q c t) ≡ []
-  lands_far n = go (eqb t.1.source c.state) (outcome_of w q c t)
-    where
-      go : (b : Bool) (o : Outcome) → landed p (cond b (landing_of q t o) []) ≡ []
-      go false o = refl
-      go true (passes s) = cond-false _ _ _ (ne_eqb (q + span t.1) p n)
-      go true fails = refl
-      go true hangs = refl
-
   pub lands_passes : t.1.source ≡ c.state → q + span t.1 ≡ p → (s : Registers) → passes s ≡ outcome_of w q c t → landed p (lands w q c t) ≡ record { state = t.1.target; registers = s } ∷ []
   lands_passes n e s h =
       ap (landed p) (cond-true (eqb t.1.source c.state) (landing_of q t (outcome_of w q c t)) [] (eq-eqb t.1.source c.state n) ∙ ap (landing_of q t) (sym h))
@@ -96,9 +84,6 @@ module _ (w : World) (p : ℕ) (c : Configuration) where
       ∙ (ap (landed q) (passing_append (take k ts) (drop k ts)) ∙ landed_append w p c q (passing w p c (take k ts)) (passing w p c (drop k ts)))
 
 module _ (P : Table) (w : World) (q : ℕ) (c : Configuration) where
-  pub skips_late : length w.events ≤ q → skips P w q c ≡ []
-  skips_late l = ap (λ z. cond (has_come z && quiet w q c (numbered P)) ((0, suc q, c) ∷ []) []) (drop_all q w.events l)
-
   pub skips_here : q < length w.events → quiet w q c (numbered P) ≡ true → (p : ℕ) → suc q ≡ p → landed p (skips P w q c) ≡ c ∷ []
   skips_here l h p e =
       ap (λ z. landed p (cond (has_come z && quiet w q c (numbered P)) ((0, suc q, c) ∷ []) [])) (drop_more w.events q (record { id = 0; values = [] }) l)

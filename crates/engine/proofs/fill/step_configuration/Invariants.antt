@@ -1,4 +1,4 @@
-use Rattle.std.proofs.Common.{ℕ, ◌+◌, Ok, vec_items}
+use Rattle.std.proofs.Common.{◌+◌, Ok, vec_items}
 use Rattle.topl.specs.Table.{Table}
 use Rattle.topl.specs.Runs.{Registers, World, Reach}
 use Rattle.engine.specs.Trails.{steps_to}

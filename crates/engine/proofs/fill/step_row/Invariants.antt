@@ -1,4 +1,4 @@
-use Rattle.std.proofs.Common.{ℕ, ◌+◌, ◌%◌, Ok}
+use Rattle.std.proofs.Common.{◌+◌, ◌%◌, Ok}
 use Rattle.topl.specs.Table.{Table}
 use Rattle.topl.specs.Runs.{Registers, World}
 use Rattle.engine.specs.Fills.{Watched, Safe, Tracks, Brings}

@@ -1,6 +1,5 @@
-use Rattle.std.proofs.Common.{◌≡◌, true, false, get_or, ap, subst, arith}
-use Rattle.engine.specs.Fronts.{stands_for}
-use Rattle.engine.proofs.Searches.{AlikeFrom, alike_step, alike_done, search_state, search_register, search_found, search_none}
+use Rattle.std.proofs.Common.{true, false, get_or, ap, arith}
+use Rattle.engine.proofs.Searches.{alike_step, search_state, search_register}
 use Rattle.engine.proofs.row.find.Goals as goal
 
 pub configurations-preserved-then-s-c : goal.configurations-preserved-then-s-c
@@ -23,15 +22,3 @@ loop-r-preserved g c =
     let x = get_or d.registers c.loop-r.r c.value-item.result in
     alike_step g.K.Kind.class c.args.states.now c.args.values.now d c.configurations.i c.configurations-test.true c.requires
     c.loop-r.r x c.index-values-i.result c.same.result true (omega (arith, c.loop-r-test.true)) (ap (λ z. get_or d.registers c.loop-r.r z) c.value-item.is) c.index-values-i.is c.same.ensures c.if-not-same.false c.loop-r.invariant
-
-pub returns-in-configurations : goal.returns-in-configurations
-returns-in-configurations g c =
-    let d = c.args.c.now in
-    let eight = d.eight in
-    let e : c.loop-r.r ≡ 8 = omega arith in
-    search_found g.K.Kind.class c.args.states.now c.args.values.now d c.configurations.i c.configurations-test.true c.requires c.configurations.invariant c.if-s-c.false
-    (alike_done g.K.Kind.class c.args.states.now c.args.values.now d c.configurations.i c.configurations-test.true c.requires
-    (subst (AlikeFrom g.K.Kind.class c.args.states.now c.args.values.now d c.configurations.i c.configurations-test.true c.requires) e c.loop-r.invariant))
-
-pub returns : goal.returns
-returns g c = search_none g.K.Kind.class c.args.states.now c.args.values.now (stands_for g.K.Kind.class c.args.c.now) c.configurations.i c.configurations-test.false c.configurations.invariant

@@ -1,17 +1,12 @@
 use Rattle.std.proofs.Common.{◌≡◌, length, vec_items, sym, ap, ◌∙◌, arith}
 use Rattle.engine.specs.Trails.{steps_to}
-use Rattle.engine.proofs.Trails.{steps_few, steps_none, read_link, read_low, read_count}
+use Rattle.engine.proofs.Trails.{steps_few, steps_none, read_low, read_count}
 use Rattle.engine.proofs.book.Book.depth.Goals as goal
 
 pub overflow_add-count : goal.overflow_add-count
 overflow_add-count c =
     let few = steps_few (vec_items c.args.self.now.entries) c.args.entry in
     omega arith
-
-pub loop-at-smaller : goal.loop-at-smaller
-loop-at-smaller c =
-    let b = c.args.self.now in
-    read_link (vec_items b.entries) b.used c.loop-at.at c.index.result.now b.linked c.index.ensures (omega arith) c.loop-at-test.true c.loop-at.invariant.0
 
 pub loop-at-preserved : goal.loop-at-preserved
 loop-at-preserved c =

@@ -1,11 +1,6 @@
 use Rattle.std.proofs.Common.{vec_items, refl, arith}
-use Rattle.engine.proofs.Trails.{entered, unentered}
+use Rattle.engine.proofs.Trails.{entered}
 use Rattle.engine.proofs.book.Book.enter.Goals as goal
-
-pub returns-then-at-room : goal.returns-then-at-room
-returns-then-at-room c =
-    let b = c.args.self.now in
-    unentered (vec_items b.entries) b.used c.args.from c.requires (omega (arith, c.room.ensures, c.if-at-room.true))
 
 pub returns : goal.returns
 returns c =

@@ -1,12 +1,7 @@
-use Rattle.std.proofs.Common.{◌≡◌, ◌+◌, ◌≤◌, [], ◌∷◌, ◌++◌, length, take, drop, vec_items, sym, ap, ◌∙◌, append-nil, arith, length-append, take-append-drop}
+use Rattle.std.proofs.Common.{◌≡◌, ◌+◌, ◌≤◌, [], ◌∷◌, length, drop, vec_items, ap, ◌∙◌, arith, length-append}
 use Rattle.engine.specs.Trails.{steps_to}
-use Rattle.engine.proofs.Trails.{steps_none, steps_some, read_link, read_low, read_steps, fill_back, filled_page}
+use Rattle.engine.proofs.Trails.{steps_none, steps_some, read_low, read_steps, fill_back, filled_page}
 use Rattle.engine.proofs.book.Book.write.Goals as goal
-
-pub loop-at-init : goal.loop-at-init
-loop-at-init c =
-    let S = steps_to (vec_items c.args.self.now.entries) c.args.entry in
-    (c.requires.0, c.depth-left.ensures, ([], sym (append-nil S), sym (ap (λ n. take n c.args.page.now ++ drop (length S) c.args.page.now) c.depth-left.ensures ∙ take-append-drop (length S) c.args.page.now)))
 
 pub overflow_sub-left : goal.overflow_sub-left
 overflow_sub-left c =
@@ -20,11 +15,6 @@ bounds-page-left c =
     let h : 1 ≤ length (steps_to (vec_items b.entries) c.loop-at.at) = steps_some (vec_items b.entries) b.used b.linked c.loop-at.at c.loop-at-test.true c.loop-at.invariant.0 in
     let e = ap length c.loop-at.invariant.2.1 ∙ length-append (steps_to (vec_items b.entries) c.loop-at.at) c.loop-at.invariant.2.0 in
     omega (arith, c.loop-at.invariant.1, c.loop-at.auto.page, c.requires.1)
-
-pub loop-at-smaller : goal.loop-at-smaller
-loop-at-smaller c =
-    let b = c.args.self.now in
-    read_link (vec_items b.entries) b.used c.loop-at.at c.index-line.result.now b.linked c.index-line.ensures (omega arith) c.loop-at-test.true c.loop-at.invariant.0
 
 pub loop-at-preserved : goal.loop-at-preserved
 loop-at-preserved c =

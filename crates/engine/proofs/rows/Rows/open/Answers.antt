@@ -1,8 +1,9 @@
-use Rattle.std.proofs.Common.{sym}
+use Rattle.std.proofs.Common.{map, sym, ap}
+use Rattle.engine.specs.Views.{number}
 use Rattle.engine.specs.Meant.{meant}
 use Rattle.engine.proofs.rows.Rows.open.Goals as goal
 
 pub returns : goal.returns
 returns g c =
     let o = c.open_rows.ensures in
-    (o.cap, o.board, o.book, o.follows (meant c.args.table.now) (sym c.constants-constants.ensures.are))
+    (o.cap, o.board, o.book, o.follows (meant c.args.table.now) (ap (map number) (sym c.constants-constants.ensures)))

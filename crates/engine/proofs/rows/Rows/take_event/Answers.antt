@@ -29,7 +29,8 @@ returns-clause-rules g c k L S j F =
     let ev = seen class c.args.id c.args.values.now in
     let W = c.witness.new.window in
     let judged : c.min-judged.result ≡ n = omega arith in
-    let slot : (c.min-judged.result + 1) % 5 ≡ suc n % 5 = ap (λ (z : ℕ). z % 5) (let z : c.min-judged.result + 1 ≡ suc n = omega arith in z) in
+    let at = c.of.ensures in
+    let slot : c.of.result.at ≡ suc n % 5 = omega arith in
     let C = subst (λ (z : ℕ). Cleared s.grid.front G z) slot c.clear.ensures in
     let R = remembers_more class W L ev (c.witness.ensures.last (drop (n - 3) L) (c.forget.ensures.rest L F.window)) in
     let base : c.saturating_sub.result ≡ n - 3 = omega arith in
