@@ -4,14 +4,14 @@ use Rattle.std.specs.List.{filter_map, flat_map, reduce}
 use Rattle.paths.specs.Paths.{slots_of, events_of, event_writes, through, state, Unwritten}
 use Rattle.property.specs.Views.{is_constant}
 use Rattle.property.specs.declared.table.Event.{Event}
-use Rattle.property.specs.declared.table.Pattern.{Pattern}
-use Rattle.property.specs.declared.table.Pattern.TheVariants as patterns
+use Rattle.topl.specs.declared.pattern.Pattern.{Pattern}
+use Rattle.topl.specs.declared.pattern.Pattern.TheVariants as patterns
 use Rattle.property.specs.declared.table.Register.{Register}
 use Rattle.property.specs.declared.table.Slot.{Slot}
 use Rattle.property.specs.declared.table.Statement.{Statement}
 
 -- Whether a pattern reads the register x.
-abbrev pub pattern_reads : ℕ → Pattern → Bool
+abbrev pub pattern_reads : ℕ → Pattern ℕ → Bool
 pattern_reads x patterns.Any = false
 pattern_reads x (patterns.Write r) = false
 pattern_reads x (patterns.Same r) = r == x

@@ -10,7 +10,7 @@ use Rattle.property.specs.declared.spot.Spot.{Spot}
 use Rattle.property.specs.declared.spot.Spot.TheVariants as spots
 use Rattle.property.specs.declared.table.Event.{Event}
 use Rattle.property.specs.declared.table.Event.TheVariants as events
-use Rattle.property.specs.declared.table.Pattern.TheVariants as patterns
+use Rattle.topl.specs.declared.pattern.Pattern.TheVariants as patterns
 use Rattle.property.specs.declared.table.Slot.{Slot}
 use Rattle.property.specs.declared.table.Statement.{Statement}
 

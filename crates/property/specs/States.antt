@@ -20,8 +20,8 @@ use Rattle.property.specs.declared.spot.Route.TheVariants as routes
 use Rattle.property.specs.declared.spot.Spot.{Spot}
 use Rattle.property.specs.declared.spot.Spot.TheVariants as spots
 use Rattle.property.specs.declared.table.Event.TheVariants as events
-use Rattle.property.specs.declared.table.Pattern.{Pattern}
-use Rattle.property.specs.declared.table.Pattern.TheVariants as patterns
+use Rattle.topl.specs.declared.pattern.Pattern.{Pattern}
+use Rattle.topl.specs.declared.pattern.Pattern.TheVariants as patterns
 use Rattle.property.specs.declared.table.Statement.{Statement}
 
 -- A declared method.
@@ -152,7 +152,7 @@ method_of P w = method_in P.methods w
 
 -- PATTERNS
 -- A pattern of a register is read, which began at place k.
-abbrev pub patterned : Key → (ℕ → Pattern) → ℕ → State → State
+abbrev pub patterned : Key → (ℕ → Pattern ℕ) → ℕ → State → State
 patterned key f k p =
     record { cursor = filled (record { pattern = f (register_of p.sofar key); place = k }) p.cursor; word = p.word; sofar = holding key p.sofar }
 

@@ -11,6 +11,7 @@ ghost use Rattle.property.specs.Words as word;
 use crate::cursor::*;
 use crate::table::*;
 use crate::words::*;
+use topl::states::{ERROR, START};
 
 // The cursor, a name that waits for its use, and the property so far.
 // Kept apart from the text where it changes: a struct that lends it by `&mut` beside the text would have each move say that the text stays as it is.
@@ -93,10 +94,10 @@ impl Reading<'_> {
         ensures { result ≡ state.state_number (seen self.now).sofar.others w.now }
     {
         if is_start(w) {
-            return START;
+            return usize::from(START);
         }
         if is_error(w) {
-            return ERROR;
+            return usize::from(ERROR);
         }
         2 + self.other(w).unwrap_or(self.draft.others.len()).min(14)
     }

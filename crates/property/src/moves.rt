@@ -268,7 +268,7 @@ impl Cursor {
     }
 
     // The cursor, where the pattern is read that began at the label's place.
-    fn inside(self, pattern: Pattern) -> Cursor
+    fn inside(self, pattern: Pattern<usize>) -> Cursor
         ensures { result ≡ cursor.filled (record { pattern = pattern; place = self.label.place }) self }
     {
         let place = self.label.place;

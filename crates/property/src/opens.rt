@@ -13,7 +13,7 @@ fn begins_pattern(b: u8) -> bool
     ensures { result ≡ pattern_opens b }
 {
     matches!(
-        classify(b as char),
+        classify(char::from(b)),
         Mark::Capital | Mark::Small | Mark::Star | Mark::Bang | Mark::Less
     )
 }
@@ -38,7 +38,7 @@ impl Line {
         ensures { result ≡ line_opens self b }
     {
         matches!(
-            (self, classify(b as char)),
+            (self, classify(char::from(b))),
             (Line::Ending, Mark::Newline)
                 | (Line::Fresh | Line::MethodName, Mark::Capital | Mark::Small)
                 | (Line::MethodNumber | Line::MethodArity, Mark::Digit)
@@ -63,7 +63,7 @@ impl Route {
         ensures { result ≡ route_opens self b }
     {
         matches!(
-            (self, classify(b as char)),
+            (self, classify(char::from(b))),
             (Route::Minus, Mark::Minus)
                 | (Route::Greater, Mark::Greater)
                 | (Route::Target, Mark::Capital | Mark::Small)

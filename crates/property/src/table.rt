@@ -2,6 +2,8 @@
 ghost use Rattle.std.specs.Prelude.{◌≡◌};
 ghost use Rattle.property.specs.Views.{name_of};
 
+pub use topl::pattern::Pattern;
+
 // A name, by the bytes of the text from one place up to another.
 // Kept as places: a slice of the text would tie the draft to the text's borrow, and a String would take memory for each name.
 #[derive(Clone, Copy)]
@@ -36,19 +38,10 @@ impl Register {
     }
 }
 
-// A pattern: any value; any, which it writes; the value of a register; any other than that.
-#[derive(Clone, Copy)]
-pub enum Pattern {
-    Any,
-    Write(usize),
-    Same(usize),
-    Differs(usize),
-}
-
 // A pattern and the place of its first byte in the text.
 #[derive(Clone, Copy)]
 pub struct Slot {
-    pub pattern: Pattern,
+    pub pattern: Pattern<usize>,
     pub place: usize,
 }
 

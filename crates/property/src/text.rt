@@ -18,6 +18,7 @@ use crate::words::*;
 use forms::finding::Finding;
 use kinds::text_reason::TextReason;
 use std::alloc::{AllocError, Global};
+use topl::states::{ERROR, START};
 
 // How many bytes a text may have.
 const LIMIT: usize = 8192;
@@ -82,14 +83,14 @@ fn routed(statements: &[Statement]) -> bool
 fn leaves_start(statements: &[Statement]) -> bool
     ensures { result ≡ list_any (λ s. nat_eq s.source 0) statements.now }
 {
-    statements.iter().any(|s| s.source == START)
+    statements.iter().any(|s| s.source == usize::from(START))
 }
 
 // Whether some statement leads to `error`.
 fn reaches_error(statements: &[Statement]) -> bool
     ensures { result ≡ list_any (λ s. nat_eq s.target 1) statements.now }
 {
-    statements.iter().any(|s| s.target == ERROR)
+    statements.iter().any(|s| s.target == usize::from(ERROR))
 }
 
 // The draft of a text of any length, or why there is none.
@@ -105,10 +106,11 @@ fn read_any(heap: Global, text: &[u8]) -> Result<Draft, Failure>
     draft.close()?;
     if !routed(draft.statements.as_slice()) {
         let place = text.len();
-        return Err(Failure::At(Flaw {
+        let flaw = Flaw {
             reason: TextReason::NoRoute,
             place,
-        }));
+        };
+        return Err(flaw.into());
     }
     Ok(draft)
 }
@@ -138,10 +140,8 @@ fn read_draft(heap: Global, text: &[u8]) -> Result<Draft, Failure>
     ensures { MatchResult result (λ d. Accepted property_text text.now (sofar text.now d)) (λ e. ExplainsBounded text.now e) }
 {
     match read_any(heap, text) {
-        Ok(_) if text.len() > LIMIT => Err(Failure::At(TOO_LONG)),
-        Err(Failure::At(f)) if text.len() > LIMIT && !f.before_limit() => {
-            Err(Failure::At(TOO_LONG))
-        }
+        Ok(_) if text.len() > LIMIT => Err(TOO_LONG.into()),
+        Err(Failure::At(f)) if text.len() > LIMIT && !f.before_limit() => { Err(TOO_LONG.into()) }
         found => found,
     }
 }

@@ -28,11 +28,6 @@ pub(crate) fn reserved(w: &[u8]) -> bool
         .any(|r| w == *r)
 }
 
-// The numbers of the states that each property has.
-pub(crate) const START: usize = 0;
-
-pub(crate) const ERROR: usize = 1;
-
 // Whether a word is the state that each property starts in.
 pub(crate) fn is_start(w: &[u8]) -> bool
     ensures { result ≡ state.is_start w.now }
