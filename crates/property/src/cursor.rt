@@ -67,7 +67,7 @@ impl Partial {
     pub(crate) fn writing(mut self, register: usize) -> Partial
         ensures { result ≡ writing register self }
     {
-        // Kept an index: of `get_mut` the goals `returns-in-Some` and `returns-in_default` stay open.
+        // Kept an index: once a `get_mut` of an array is over, a proof knows none of its elements, so the goals `returns-in-Some` and `returns-in_default` stay open.
         if register < 8 {
             self.written[register] = true;
         }

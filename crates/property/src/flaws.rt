@@ -46,7 +46,7 @@ fn arity_flaw(w: &[u8]) -> Option<TextReason>
     too_much(decimal(w).is_none_or(|n| n > 5))
 }
 
-// Tests that ask the draft stand before `or_else`: asked inside of its closure, the goals `returns` stay open.
+// Kept tests of the draft before `or_else`, where each is asked even if the name has a fault: of a closure that asks it, a proof learns nothing (goals `returns`).
 impl Reading<'_> {
     // Whether a state would be the seventeenth.
     fn crowded(&self, w: &[u8]) -> bool
@@ -100,7 +100,7 @@ impl Reading<'_> {
         ensures { told result ≡ worst (line_flaws Line.MethodNumber (seen self.now) w.now) }
     {
         match decimal(w) {
-            Some(n) => fault(self.draft.numbered(n), TextReason::BadMethod),
+            Some(n) => fault(self.draft.numbered(u32::from(n)), TextReason::BadMethod),
             None => Some(TextReason::TooMuch),
         }
     }

@@ -1,5 +1,5 @@
 // Words of a text, and numbers.
-ghost use Rattle.std.specs.Prelude.{◌≡◌, ◌<◌, ◌≤◌, min, length, drop, if◌then◌else◌, ◌==◌, not, nat_le, position, Some, None};
+ghost use Rattle.std.specs.Prelude.{◌≡◌, ◌+◌, ◌-◌, ◌*◌, ◌<◌, ◌≤◌, min, length, drop, if◌then◌else◌, ◌==◌, not, nat_le, position, Some, None};
 ghost use Rattle.forms.specs.Bytes.{letter, small, value, space, wordy};
 ghost use Rattle.property.specs.Marks.{in_class};
 ghost use Rattle.property.specs.Reading.{Passed};
@@ -96,19 +96,19 @@ pub(crate) fn skip(text: &[u8], class: Class, at: usize) -> usize
     }
 }
 
+// The number with one more digit, none where it is over 65,535.
+fn appended(v: u16, digit: u8) -> Option<u16>
+    ensures { result ≡ (if nat_le (v * 10 + (digit - 48)) 65535 then Some (v * 10 + (digit - 48)) else None) }
+{
+    v.checked_mul(10)?
+        .checked_add(u16::from(digit.saturating_sub(b'0')))
+}
+
 // The number that digits write, none where it is over 65,535.
-// Kept a loop: of `try_fold` over checked sums the goal `returns` stays open.
-pub(crate) fn decimal(digits: &[u8]) -> Option<u32>
+pub(crate) fn decimal(digits: &[u8]) -> Option<u16>
     ensures { result ≡ (if nat_le (value digits.now) 65535 then Some (value digits.now) else None) }
 {
-    let mut v = 0;
-    for b in digits {
-        v = v * 10 + u32::from(b.saturating_sub(b'0'));
-        if v > 65535 {
-            return None;
-        }
-    }
-    Some(v)
+    digits.iter().try_fold(0, |v, b| appended(v, *b))
 }
 
 // The number that digits write, where all over 65,535 stand as one.
@@ -116,7 +116,7 @@ pub(crate) fn decimal(digits: &[u8]) -> Option<u32>
 pub(crate) fn capped(digits: &[u8]) -> u32
     ensures { result ≡ most digits.now }
 {
-    decimal(digits).unwrap_or(65536)
+    decimal(digits).map_or(65536, u32::from)
 }
 
 // Whether a colon comes after the spaces at a place.
