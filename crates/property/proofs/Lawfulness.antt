@@ -6,7 +6,7 @@ use Rattle.forms.specs.Grammars.{Lawful}
 use Rattle.forms.specs.Pieces.{word, number}
 use Rattle.forms.proofs.Laws.{apart}
 use Rattle.forms.proofs.Lexing.{letter_wordy, digit_wordy}
-use Rattle.property.specs.Cursors.{to, counted, filled, labelled, finished, returning, taking, one_more, opened, placed, writing}
+use Rattle.property.specs.Cursors.{to, filled, labelled, finished, returning, taking, opened, placed, writing}
 use Rattle.property.specs.Grammar.{text, opens, opens_at, tight_at, ends_at}
 use Rattle.property.specs.States.{State, at, turned, moved_at, moved, begins, whole_begins, callee_at, variable, variable_key, register_of, patterned, declares, leaving, ends_statement}
 use Rattle.property.specs.Words.{same, first_byte}
@@ -56,8 +56,7 @@ loose_at false u v h k = k
 
 loose_filled : (x : Slot) (u : Cursor) → tight_at (filled x u).spot ≡ false
 loose_filled x u =
-    loose_at (eqb u.count 0) (to (spots.Label labels.Becomes) (counted 1 (labelled (returning x u.label) u)))
-    (to (spots.Label labels.Comma) (counted (one_more u.count) (labelled (taking u.count x u.label) u))) refl refl
+    loose_at (eqb u.label.count 0) (to (spots.Label labels.Becomes) (labelled (returning x u.label) u)) (to (spots.Label labels.Comma) (labelled (taking x u.label) u)) refl refl
 
 loose_variable : (w : List ℕ) (k : ℕ) (p : State) → Loose (variable w k p)
 loose_variable w k p =
@@ -87,9 +86,9 @@ not_after_star : (c : ℕ) → wordy c ≡ true → eqb c 58 || (eqb c 59 || eqb
 not_after_star c h = grind (arith, nat_tests)
 
 -- After a word or a number spaces are free.
-loose_moved : (s : Spot) (p : State) (w : List ℕ) (c k : ℕ) → wordy c ≡ true → tight_at s ≡ false → opens_at s p.cursor.count c ≡ true → Loose (moved_at s p w c k)
+loose_moved : (s : Spot) (p : State) (w : List ℕ) (c k : ℕ) → wordy c ≡ true → tight_at s ≡ false → opens_at s c ≡ true → Loose (moved_at s p w c k)
 loose_moved (spots.Head heads.Margin) p w c k h e o = apart true refl e
-loose_moved (spots.Head heads.Keyword) p w c k h e o = apart true refl e
+loose_moved (spots.Head (heads.Keyword n)) p w c k h e o = apart true refl e
 loose_moved (spots.Head heads.Gap) p w c k h e o = apart true refl e
 loose_moved (spots.Head heads.Title) p w c k h e o = loose _ refl
 loose_moved (spots.Line lines.Ending) p w c k h e o = loose _ refl
@@ -97,19 +96,19 @@ loose_moved (spots.Line lines.Fresh) p w c k h e o =
     loose_cond (declares p w) (turned (spots.Line lines.MethodName) p) (leaving w p) (loose _ refl) (loose _ refl)
 loose_moved (spots.Line lines.MethodName) p w c k h e o = loose _ refl
 loose_moved (spots.Line lines.MethodNumber) p w c k h e o = loose _ refl
-loose_moved (spots.Line lines.MethodArity) p w c k h e o = loose _ refl
+loose_moved (spots.Line (lines.MethodArity n)) p w c k h e o = loose _ refl
 loose_moved (spots.Route routes.Minus) p w c k h e o = not_mark c 45 h refl o
 loose_moved (spots.Route routes.Greater) p w c k h e o = apart true refl e
 loose_moved (spots.Route routes.Target) p w c k h e o = loose _ refl
 loose_moved (spots.Route routes.Colon) p w c k h e o = loose _ refl
 loose_moved (spots.Label labels.Begin) p w c k h e o =
     let a = turned (spots.Label labels.Star) p in
-    let b = at (to (spots.Label labels.Callee) (counted 1 (labelled (opened kinds.Call k) p.cursor))) p in
-    let d = at (to (spots.Inner inners.Returned) (counted 0 (labelled (opened kinds.Return k) p.cursor))) p in
+    let b = at (to (spots.Label labels.Callee) (labelled (opened kinds.Call k 1) p.cursor)) p in
+    let d = at (to (spots.Inner inners.Returned) (labelled (opened kinds.Return k 0) p.cursor)) p in
     let f = whole_begins w c k p in
     loose_cond (eqb c 42) a (cond (same w (codes "call")) b (cond (same w (codes "ret")) d f)) (loose a refl)
     (loose_cond (same w (codes "call")) b (cond (same w (codes "ret")) d f) (loose b refl)
-    (loose_cond (same w (codes "ret")) d f (loose d refl) (loose_begins w c k (at (counted 0 (labelled (opened kinds.Both k) p.cursor)) p))))
+    (loose_cond (same w (codes "ret")) d f (loose d refl) (loose_begins w c k (at (labelled (opened kinds.Both k 0) p.cursor) p))))
 loose_moved (spots.Label labels.Star) p w c k h e o = apart (eqb c 58 || (eqb c 59 || eqb c 10)) o (not_after_star c h)
 loose_moved (spots.Label labels.Becomes) p w c k h e o = not_mark c 58 h refl o
 loose_moved (spots.Label labels.Equals) p w c k h e o = apart true refl e
@@ -126,7 +125,7 @@ loose_moved (spots.Inner inners.Param) p w c k h e o = loose_begins w c k p
 loose_moved (spots.Inner inners.Negated) p w c k h e o =
     loose _ (loose_filled (record { pattern = patterns.Differs (register_of p.sofar (variable_key w)); place = p.cursor.label.place }) p.cursor)
 loose_moved (spots.Inner inners.Quoted) p w c k h e o = loose _ refl
-loose_moved (spots.Inner inners.Unquote) p w c k h e o = loose _ (which (eqb p.cursor.count 1))
+loose_moved (spots.Inner inners.Unquote) p w c k h e o = loose _ (which (eqb p.cursor.label.count 1))
   where
     which : (b : Bool) → tight_at (spots.Label (cond b labels.Becomes labels.Comma)) ≡ false
     which true = refl

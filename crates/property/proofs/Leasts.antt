@@ -116,14 +116,14 @@ rising_begun late p w c r = rising_cond (letter c) (fresh_flaws late p w) (patte
 
 pub rising_flaws : (s : Spot) (p : State) (w : List ℕ) (c : ℕ) (r : List ℕ) → Rising (flaws_at s p w c r)
 rising_flaws (spots.Head heads.Margin) p w c r = rising_0
-rising_flaws (spots.Head heads.Keyword) p w c r = rising_0
+rising_flaws (spots.Head (heads.Keyword n)) p w c r = rising_0
 rising_flaws (spots.Head heads.Gap) p w c r = rising_0
 rising_flaws (spots.Head heads.Title) p w c r = rising_2 _ _ (omega arith)
 rising_flaws (spots.Line lines.Ending) p w c r = rising_0
 rising_flaws (spots.Line lines.Fresh) p w c r = rising_cond (declares p w) _ _ (rising_1 _) (rising_3 _ _ _ (omega arith) (omega arith))
 rising_flaws (spots.Line lines.MethodName) p w c r = rising_3 _ _ _ (omega arith) (omega arith)
 rising_flaws (spots.Line lines.MethodNumber) p w c r = rising_2 _ _ (omega arith)
-rising_flaws (spots.Line lines.MethodArity) p w c r = rising_1 _
+rising_flaws (spots.Line (lines.MethodArity n)) p w c r = rising_1 _
 rising_flaws (spots.Route routes.Minus) p w c r = rising_0
 rising_flaws (spots.Route routes.Greater) p w c r = rising_0
 rising_flaws (spots.Route routes.Target) p w c r = rising_2 _ _ (omega arith)

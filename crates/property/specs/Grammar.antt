@@ -23,19 +23,19 @@ use Rattle.property.specs.declared.spot.Spot.{Spot}
 use Rattle.property.specs.declared.spot.Spot.TheVariants as spots
 
 -- WHICH BYTES MAY COME, first byte by first byte.
--- In the keyword of the first line, of which n letters have been read.
-abbrev pub head_opens : Head → ℕ → ℕ → Bool
-head_opens heads.Margin n c = c == 32 || c == 112
-head_opens heads.Keyword n c = c == slice_index_or (codes "property") n 121
-head_opens heads.Gap n c = c == 32
-head_opens heads.Title n c = letter c
+-- In the keyword of the first line n letters have been read.
+abbrev pub head_opens : Head → ℕ → Bool
+head_opens heads.Margin c = c == 32 || c == 112
+head_opens (heads.Keyword n) c = c == slice_index_or (codes "property") n 121
+head_opens heads.Gap c = c == 32
+head_opens heads.Title c = letter c
 
 abbrev pub line_opens : Line → ℕ → Bool
 line_opens lines.Ending c = c == 10
 line_opens lines.Fresh c = letter c
 line_opens lines.MethodName c = letter c
 line_opens lines.MethodNumber c = digit c
-line_opens lines.MethodArity c = digit c
+line_opens (lines.MethodArity n) c = digit c
 
 abbrev pub route_opens : Route → ℕ → Bool
 route_opens routes.Minus c = c == 45
@@ -65,20 +65,20 @@ inner_opens inners.Negated c = small c
 inner_opens inners.Quoted c = letter c
 inner_opens inners.Unquote c = c == 62
 
-abbrev pub opens_at : Spot → ℕ → ℕ → Bool
-opens_at (spots.Head h) n c = head_opens h n c
-opens_at (spots.Line l) n c = line_opens l c
-opens_at (spots.Route r) n c = route_opens r c
-opens_at (spots.Label l) n c = label_opens l c
-opens_at (spots.Inner i) n c = inner_opens i c
+abbrev pub opens_at : Spot → ℕ → Bool
+opens_at (spots.Head h) c = head_opens h c
+opens_at (spots.Line l) c = line_opens l c
+opens_at (spots.Route r) c = route_opens r c
+opens_at (spots.Label l) c = label_opens l c
+opens_at (spots.Inner i) c = inner_opens i c
 
 abbrev pub opens : Cursor → ℕ → Bool
-opens u c = opens_at u.spot u.count c
+opens u c = opens_at u.spot c
 
 -- No spaces are free before and in the keyword, right after it, and inside `->` and `:=`.
 abbrev pub tight_at : Spot → Bool
 tight_at (spots.Head heads.Margin) = true
-tight_at (spots.Head heads.Keyword) = true
+tight_at (spots.Head (heads.Keyword n)) = true
 tight_at (spots.Head heads.Gap) = true
 tight_at (spots.Head heads.Title) = false
 tight_at (spots.Line l) = false
@@ -107,7 +107,7 @@ arity_flaws w = (nat_lt 5 (value w), 11) ∷ []
 
 abbrev pub head_flaws : Head → List ℕ → List (Bool × ℕ)
 head_flaws heads.Margin w = []
-head_flaws heads.Keyword w = []
+head_flaws (heads.Keyword n) w = []
 head_flaws heads.Gap w = []
 head_flaws heads.Title w = name_flaws w
 
@@ -118,7 +118,7 @@ line_flaws lines.Fresh p w =
     ((reserved w, 10) ∷ (long w || (nat_le 64 (length p.sofar.statements) || crowded p w), 11) ∷ (same w (codes "error"), 16) ∷ [])
 line_flaws lines.MethodName p w = (reserved w, 10) ∷ (long w, 11) ∷ (nat_lt (method_place p.sofar w) (length p.sofar.methods), 12) ∷ []
 line_flaws lines.MethodNumber p w = (nat_lt 65535 (value w), 11) ∷ (list_any (λ m. nat_eq (value w) m.number) p.sofar.methods, 12) ∷ []
-line_flaws lines.MethodArity p w = arity_flaws w
+line_flaws (lines.MethodArity n) p w = arity_flaws w
 
 abbrev pub route_flaws : Route → State → List ℕ → List (Bool × ℕ)
 route_flaws routes.Minus p w = []
@@ -157,7 +157,7 @@ begun_flaws late p w c r = cond (letter c) (fresh_flaws late p w) (pattern_flaws
 
 -- A closing bracket after another count of patterns than the method has parameters.
 abbrev pub closing_flaws : Cursor → List (Bool × ℕ)
-closing_flaws u = (not (u.count == u.label.arity + 1), 13) ∷ []
+closing_flaws u = (not (u.label.count == u.label.arity + 1), 13) ∷ []
 
 abbrev pub label_flaws : Label → State → List ℕ → ℕ → List ℕ → List (Bool × ℕ)
 label_flaws labels.Begin p w c r =
@@ -210,7 +210,7 @@ line_ends lines.Ending s = true
 line_ends lines.Fresh s = none_left s
 line_ends lines.MethodName s = false
 line_ends lines.MethodNumber s = false
-line_ends lines.MethodArity s = false
+line_ends (lines.MethodArity n) s = false
 
 abbrev pub label_ends : Label → Bool
 label_ends labels.Begin = false

@@ -5,7 +5,8 @@ ghost use Rattle.property.specs.Cursors.{blank, opened, sourced, origin, filled,
 use crate::spot::*;
 use crate::table::*;
 
-// The label that is being read: its kind, its method, where its pattern began, its patterns, and the registers that it writes.
+// The label that is being read: its kind, its method, where its pattern began, how many patterns have been read, of which the returned one counts as the first
+// also where there is none, the patterns, and the registers that it writes.
 // Kept arrays: the label is public and `Copy`, which an ArrayVec is not.
 #[derive(Clone, Copy)]
 pub struct Partial {
@@ -13,20 +14,17 @@ pub struct Partial {
     pub number: u32,
     pub arity: usize,
     pub place: usize,
+    pub count: usize,
     pub returned: Slot,
     pub slots: [Slot; 5],
     pub written: [bool; 8],
 }
 
-// A place in the grammar: the spot, how many letters or patterns were counted there, the number of a method line, the label and the statement that are
-// being read, and whether `start` and `error` have been written.
-// Kept the count beside the spot: in the spot it would stand in six variants (Keyword, Param, Negated, Quoted, Unquote, Comma), each of which hands it on.
+// A place in the grammar: the spot, the label and the statement that are being read, and whether `start` and `error` have been written.
 // Kept two bools, `starts` and `errs`: each holds or not by itself and has no value beside it, so an enum would have a variant for each of the four cases.
 #[derive(Clone, Copy)]
 pub struct Cursor {
     pub spot: Spot,
-    pub count: usize,
-    pub number: u32,
     pub label: Partial,
     pub statement: Statement,
     pub starts: bool,
@@ -41,15 +39,16 @@ const BLANK: Slot = Slot {
 };
 
 impl Partial {
-    // A label that begins, of a kind, at a place.
-    pub(crate) fn opened(kind: Kind, place: usize) -> Partial
-        ensures { result ≡ opened kind place }
+    // A label that begins, of a kind, at a place, with so many patterns.
+    pub(crate) fn opened(kind: Kind, place: usize, count: usize) -> Partial
+        ensures { result ≡ opened kind place count }
     {
         Partial {
             kind,
             number: 0,
             arity: 0,
             place,
+            count,
             returned: BLANK,
             slots: [BLANK; 5],
             written: [false; 8],
@@ -96,9 +95,7 @@ impl Cursor {
     {
         Cursor {
             spot: Spot::Head(Head::Margin),
-            count: 0,
-            number: 0,
-            label: Partial::opened(Kind::Call, 0),
+            label: Partial::opened(Kind::Call, 0, 1),
             statement: Statement::sourced(0),
             starts: false,
             errs: false,
@@ -109,17 +106,17 @@ impl Cursor {
     pub(crate) fn filled(mut self, slot: Slot) -> Cursor
         ensures { result ≡ filled slot self }
     {
-        if self.count == 0 {
+        if self.label.count == 0 {
             self.label.returned = slot;
             self.spot = Spot::Label(Label::Becomes);
         } else {
-            if self.count <= 5 {
-                self.label.slots[self.count - 1] = slot;
+            if self.label.count <= 5 {
+                self.label.slots[self.label.count - 1] = slot;
             }
             self.spot = Spot::Label(Label::Comma);
         }
-        if self.count < 7 {
-            self.count += 1;
+        if self.label.count < 7 {
+            self.label.count += 1;
         }
         self
     }

@@ -109,11 +109,9 @@ impl Reading<'_> {
     fn closing_flaw(&self) -> Option<TextReason>
         ensures { told result ≡ worst (closing_flaws self.now.draft.now.cursor) }
     {
-        let params = self.draft.cursor.count.checked_sub(1);
-        fault(
-            params != Some(self.draft.cursor.label.arity),
-            TextReason::OtherArity,
-        )
+        let label = self.draft.cursor.label;
+        let params = label.count.checked_sub(1);
+        fault(params != Some(label.arity), TextReason::OtherArity)
     }
 
     // Whether a constant or a variable that may stand after `!` or `<` needs a ninth register.
@@ -206,7 +204,7 @@ impl Reading<'_> {
             Line::Fresh => self.fresh_flaw(w),
             Line::MethodName => self.method_flaw(w),
             Line::MethodNumber => self.number_flaw(w),
-            Line::MethodArity => arity_flaw(w),
+            Line::MethodArity(_) => arity_flaw(w),
         }
     }
 

@@ -62,12 +62,12 @@ impl Draft {
     }
 
     // The method of a line is declared.
-    fn add_method(&mut self, arity: usize) -> Result<(), AllocError>
-        ensures { OnOk result ((t : List ℕ) → view t self.new ≡ declare arity (view t self.old)) }
+    fn add_method(&mut self, number: u32, arity: usize) -> Result<(), AllocError>
+        ensures { OnOk result ((t : List ℕ) → view t self.new ≡ declare number arity (view t self.old)) }
     {
         let method = Method {
             name: self.word,
-            number: self.cursor.number,
+            number,
             arity,
         };
         self.methods.push(method)?;
@@ -91,22 +91,19 @@ impl Cursor {
         ensures { result ≡ state.margin byte self }
     {
         if byte != b' ' {
-            self.spot = Spot::Head(Head::Keyword);
-            self.count = 1;
+            self.spot = Spot::Head(Head::Keyword(1));
         }
         self
     }
+}
 
-    // The cursor after a letter of the keyword.
-    fn keyword(mut self) -> Cursor
-        ensures { result ≡ state.keyword self }
-    {
-        if self.count < 7 {
-            self.count += 1;
-        } else {
-            self.spot = Spot::Head(Head::Gap);
-        }
-        self
+// Where a letter of the keyword leads, with so many read before it.
+fn after_letter(read: usize) -> Head
+    ensures { result ≡ state.after_letter read }
+{
+    match read {
+        0..7 => Head::Keyword(read + 1),
+        _ => Head::Gap,
     }
 }
 
@@ -117,7 +114,7 @@ impl Draft {
     {
         match head {
             Head::Margin => self.cursor = self.cursor.margin(found.byte),
-            Head::Keyword => self.cursor = self.cursor.keyword(),
+            Head::Keyword(read) => self.cursor.spot = Spot::Head(after_letter(read)),
             Head::Gap => self.cursor.spot = Spot::Head(Head::Title),
             Head::Title => {
                 self.name = found.name;
@@ -171,12 +168,9 @@ impl Draft {
                 self.word = name;
                 Spot::Line(Line::MethodNumber)
             }
-            Line::MethodNumber => {
-                self.cursor.number = capped(spelled(text, name));
-                Spot::Line(Line::MethodArity)
-            }
-            Line::MethodArity => {
-                self.add_method(capped(spelled(text, name)) as usize)?;
+            Line::MethodNumber => Spot::Line(Line::MethodArity(capped(spelled(text, name)))),
+            Line::MethodArity(number) => {
+                self.add_method(number, capped(spelled(text, name)) as usize)?;
                 Spot::Line(Line::Ending)
             }
         };
@@ -275,12 +269,11 @@ impl Cursor {
         self.filled(Slot { pattern, place })
     }
 
-    // The cursor, where a label begins, of a kind, at a place, and goes on at a spot.
+    // The cursor, where a label begins, of a kind, at a place, with so many patterns, and goes on at a spot.
     fn labelled(mut self, kind: Kind, place: usize, count: usize, spot: Spot) -> Cursor
-        ensures { result ≡ cursor.to spot (cursor.counted count (cursor.labelled (cursor.opened kind place) self)) }
+        ensures { result ≡ cursor.to spot (cursor.labelled (cursor.opened kind place count) self) }
     {
-        self.label = Partial::opened(kind, place);
-        self.count = count;
+        self.label = Partial::opened(kind, place, count);
         self.spot = spot;
         self
     }
@@ -313,9 +306,9 @@ impl Cursor {
 
     // The spot after the `>` of a constant.
     fn unquoted(self) -> Spot
-        ensures { result ≡ Spot.Label (if nat_eq self.count 1 then Label.Becomes else Label.Comma) }
+        ensures { result ≡ Spot.Label (if nat_eq self.label.count 1 then Label.Becomes else Label.Comma) }
     {
-        match self.count {
+        match self.label.count {
             1 => Spot::Label(Label::Becomes),
             _ => Spot::Label(Label::Comma),
         }

@@ -19,13 +19,13 @@ fn begins_pattern(b: u8) -> bool
 }
 
 impl Head {
-    // Whether the byte may come, with so many letters of the keyword read.
-    pub(crate) fn opens(self, count: usize, b: u8) -> bool
-        ensures { result ≡ head_opens self count b }
+    // Whether the byte may come.
+    pub(crate) fn opens(self, b: u8) -> bool
+        ensures { result ≡ head_opens self b }
     {
         match self {
             Head::Margin => b == b' ' || b == b'p',
-            Head::Keyword => b == KEYWORD[count.min(7)],
+            Head::Keyword(read) => b == KEYWORD[read.min(7)],
             Head::Gap => b == b' ',
             Head::Title => b.is_ascii_alphabetic(),
         }
@@ -41,7 +41,7 @@ impl Line {
             (self, classify(char::from(b))),
             (Line::Ending, Mark::Newline)
                 | (Line::Fresh | Line::MethodName, Mark::Capital | Mark::Small)
-                | (Line::MethodNumber | Line::MethodArity, Mark::Digit)
+                | (Line::MethodNumber | Line::MethodArity(_), Mark::Digit)
         )
     }
 
@@ -113,12 +113,12 @@ impl Inner {
 }
 
 impl Spot {
-    // Whether the byte may come, with so many letters of the keyword read.
-    pub(crate) fn opens(self, count: usize, b: u8) -> bool
-        ensures { result ≡ opens_at self count b }
+    // Whether the byte may come.
+    pub(crate) fn opens(self, b: u8) -> bool
+        ensures { result ≡ opens_at self b }
     {
         match self {
-            Spot::Head(h) => h.opens(count, b),
+            Spot::Head(h) => h.opens(b),
             Spot::Line(l) => l.opens(b),
             Spot::Route(r) => r.opens(b),
             Spot::Label(l) => l.opens(b),
@@ -132,7 +132,7 @@ impl Spot {
     {
         matches!(
             self,
-            Spot::Head(Head::Margin | Head::Keyword | Head::Gap)
+            Spot::Head(Head::Margin | Head::Keyword(_) | Head::Gap)
                 | Spot::Route(Route::Greater)
                 | Spot::Label(Label::Equals)
         )

@@ -121,7 +121,7 @@ impl Reader<'_> {
     {
         let spot = draft.cursor.spot;
         let byte = self.text[from];
-        if !spot.opens(draft.cursor.count, byte) {
+        if !spot.opens(byte) {
             return Err(Flaw::no_form(from));
         }
         let to = self.end(spot, from)?;
