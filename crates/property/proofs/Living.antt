@@ -290,12 +290,12 @@ param p =
     by_placed (turned (spots.Inner inners.Param) p) (λ k. at (filled (record { pattern = patterns.Any; place = k }) (to (spots.Inner inners.Param) p.cursor)) p) 42
     refl refl refl refl (λ _. refl) (λ k. after_pattern (record { pattern = patterns.Any; place = k }) (to (spots.Inner inners.Param) p.cursor) p)
 
-negated : (p : State) → Living (turned (spots.Inner inners.Negated) p)
-negated p =
-    let q = moved (turned (spots.Inner inners.Negated) p) (97 ∷ []) 97 0 in
-    let x : Slot = record { pattern = patterns.Differs (register_of p.sofar (variable_key (97 ∷ []))); place = p.cursor.label.place } in
-    by_word (turned (spots.Inner inners.Negated) p) q refl (pattern_loose x (to (spots.Inner inners.Negated) p.cursor) q) refl (λ _. refl)
-    (after_pattern x (to (spots.Inner inners.Negated) p.cursor) q)
+negated : (n : ℕ) (p : State) → Living (turned (spots.Inner (inners.Negated n)) p)
+negated n p =
+    let q = moved (turned (spots.Inner (inners.Negated n)) p) (97 ∷ []) 97 0 in
+    let x : Slot = record { pattern = patterns.Differs (register_of p.sofar (variable_key (97 ∷ []))); place = n } in
+    by_word (turned (spots.Inner (inners.Negated n)) p) q refl (pattern_loose x (to (spots.Inner (inners.Negated n)) p.cursor) q) refl (λ _. refl)
+    (after_pattern x (to (spots.Inner (inners.Negated n)) p.cursor) q)
 
 unquote : (p : State) → Living (turned (spots.Inner inners.Unquote) p)
 unquote p =
@@ -306,10 +306,10 @@ unquote p =
     which true = becomes p
     which false = comma p
 
-quoted : (p : State) → Living (turned (spots.Inner inners.Quoted) p)
-quoted p =
-    let q = moved (turned (spots.Inner inners.Quoted) p) (97 ∷ []) 97 0 in
-    by_word (turned (spots.Inner inners.Quoted) p) q refl refl refl (λ _. refl) (unquote q)
+quoted : (n : ℕ) (p : State) → Living (turned (spots.Inner (inners.Quoted n)) p)
+quoted n p =
+    let q = moved (turned (spots.Inner (inners.Quoted n)) p) (97 ∷ []) 97 0 in
+    by_word (turned (spots.Inner (inners.Quoted n)) p) q refl refl refl (λ _. refl) (unquote q)
 
 pub lives_at : (s : Spot) (p : State) → Living (turned s p)
 lives_at (spots.Head heads.Margin) p = margin p
@@ -336,6 +336,6 @@ lives_at (spots.Label labels.End) p = label_end p
 lives_at (spots.Inner inners.Returned) p = returned p
 lives_at (spots.Inner inners.First) p = first p
 lives_at (spots.Inner inners.Param) p = param p
-lives_at (spots.Inner inners.Negated) p = negated p
-lives_at (spots.Inner inners.Quoted) p = quoted p
+lives_at (spots.Inner (inners.Negated n)) p = negated n p
+lives_at (spots.Inner (inners.Quoted n)) p = quoted n p
 lives_at (spots.Inner inners.Unquote) p = unquote p

@@ -18,10 +18,10 @@ use Rattle.property.specs.declared.table.Statement.{Statement}
 abbrev pub blank : Slot
 blank = record { pattern = patterns.Any; place = 0 }
 
--- A label that begins, of a kind, at a place, with n patterns.
-abbrev pub opened : Kind → ℕ → ℕ → Partial
-opened d k n =
-    record { kind = d; number = 0; arity = 0; place = k; count = n; returned = blank; slots = replicate 5 blank; written = replicate 8 false }
+-- A label that begins, of a kind, with n patterns.
+abbrev pub opened : Kind → ℕ → Partial
+opened d n =
+    record { kind = d; number = 0; arity = 0; count = n; returned = blank; slots = replicate 5 blank; written = replicate 8 false }
 
 -- A statement that begins, from a state.
 abbrev pub sourced : ℕ → Statement
@@ -30,7 +30,7 @@ sourced n = record { source = n; target = 0; events = replicate 4 events.Any; sp
 -- Before the text.
 abbrev pub origin : Cursor
 origin =
-    record { spot = spots.Head heads.Margin; label = opened kinds.Call 0 1; statement = sourced 0; starts = false; errs = false }
+    record { spot = spots.Head heads.Margin; label = opened kinds.Call 1; statement = sourced 0; starts = false; errs = false }
 
 -- Moving on to a spot.
 abbrev pub to : Spot → Cursor → Cursor
@@ -52,15 +52,10 @@ abbrev pub seen : Bool → Bool → Cursor → Cursor
 seen a b c =
     record { spot = c.spot; label = c.label; statement = c.statement; starts = a; errs = b }
 
--- A label with the place where a pattern of it begins.
-abbrev pub placed : ℕ → Partial → Partial
-placed k l =
-    record { kind = l.kind; number = l.number; arity = l.arity; place = k; count = l.count; returned = l.returned; slots = l.slots; written = l.written }
-
 -- A label with its method.
 abbrev pub naming : ℕ → ℕ → Partial → Partial
 naming n a l =
-    record { kind = l.kind; number = n; arity = a; place = l.place; count = l.count; returned = l.returned; slots = l.slots; written = l.written }
+    record { kind = l.kind; number = n; arity = a; count = l.count; returned = l.returned; slots = l.slots; written = l.written }
 
 -- Counting one more, up to seven: no method has so many patterns.
 abbrev pub one_more : ℕ → ℕ
@@ -73,17 +68,17 @@ parameters k x ss = cond (nat_le k 5) (slice_set ss (k - 1) x) ss
 -- A label with its returned pattern, and with its next parameter.
 abbrev pub returning : Slot → Partial → Partial
 returning x l =
-    record { kind = l.kind; number = l.number; arity = l.arity; place = l.place; count = 1; returned = x; slots = l.slots; written = l.written }
+    record { kind = l.kind; number = l.number; arity = l.arity; count = 1; returned = x; slots = l.slots; written = l.written }
 
 abbrev pub taking : Slot → Partial → Partial
 taking x l =
-    record { kind = l.kind; number = l.number; arity = l.arity; place = l.place; count = one_more l.count; returned = l.returned; slots = parameters l.count x l.slots; written = l.written }
+    record { kind = l.kind; number = l.number; arity = l.arity; count = one_more l.count; returned = l.returned; slots = parameters l.count x l.slots; written = l.written }
 
 -- A label that writes a register.
 abbrev pub writing : ℕ → Partial → Partial
 writing r l =
     cond (nat_lt r 8)
-    (record { kind = l.kind; number = l.number; arity = l.arity; place = l.place; count = l.count; returned = l.returned; slots = l.slots; written = slice_set l.written r true })
+    (record { kind = l.kind; number = l.number; arity = l.arity; count = l.count; returned = l.returned; slots = l.slots; written = slice_set l.written r true })
     l
 
 -- The next pattern of a label: the returned one first, then the parameters.

@@ -61,8 +61,8 @@ abbrev pub inner_opens : Inner → ℕ → Bool
 inner_opens inners.Returned c = pattern_opens c
 inner_opens inners.First c = c == 41 || pattern_opens c
 inner_opens inners.Param c = pattern_opens c
-inner_opens inners.Negated c = small c
-inner_opens inners.Quoted c = letter c
+inner_opens (inners.Negated n) c = small c
+inner_opens (inners.Quoted n) c = letter c
 inner_opens inners.Unquote c = c == 62
 
 abbrev pub opens_at : Spot → ℕ → Bool
@@ -176,8 +176,8 @@ abbrev pub inner_flaws : Inner → State → List ℕ → ℕ → List ℕ → L
 inner_flaws inners.Returned p w c r = pattern_flaws false p w c r
 inner_flaws inners.First p w c r = cond (c == 41) (closing_flaws p.cursor) (pattern_flaws false p w c r)
 inner_flaws inners.Param p w c r = pattern_flaws false p w c r
-inner_flaws inners.Negated p w c r = name_flaws w
-inner_flaws inners.Quoted p w c r = name_flaws w
+inner_flaws (inners.Negated n) p w c r = name_flaws w
+inner_flaws (inners.Quoted n) p w c r = name_flaws w
 inner_flaws inners.Unquote p w c r = []
 
 abbrev pub flaws_at : Spot → State → List ℕ → ℕ → List ℕ → List (Bool × ℕ)

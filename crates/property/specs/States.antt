@@ -2,7 +2,7 @@
 use Rattle.std.specs.Prelude.{ℕ, ◌+◌, Bool, true, false, cond, not, ◌&&◌, ◌||◌, List, [], ◌∷◌, ◌++◌, length, codes, ◌==◌, nat_eq, nat_le, nat_lt, slice_index_or}
 use Rattle.std.specs.List.{list_any, position_or_len}
 use Rattle.forms.specs.Bytes.{capital, value}
-use Rattle.property.specs.Cursors.{opened, sourced, targeted, one_if, origin, to, labelled, stated, seen, placed, naming, writing, filled, met, finished}
+use Rattle.property.specs.Cursors.{opened, sourced, targeted, one_if, origin, to, labelled, stated, seen, naming, writing, filled, met, finished}
 use Rattle.property.specs.Words.{same, lowered, first_byte}
 use Rattle.property.specs.declared.cursor.Cursor.{Cursor}
 use Rattle.property.specs.declared.spot.Head.{Head}
@@ -167,12 +167,12 @@ variable w k p =
 abbrev pub begins : List ℕ → ℕ → ℕ → State → State
 begins w c k p =
     cond (c == 42) (at (filled (record { pattern = patterns.Any; place = k }) p.cursor) p)
-    (cond (c == 33) (at (to (spots.Inner inners.Negated) (labelled (placed k p.cursor.label) p.cursor)) p)
-    (cond (c == 60) (at (to (spots.Inner inners.Quoted) (labelled (placed k p.cursor.label) p.cursor)) p) (variable w k p)))
+    (cond (c == 33) (turned (spots.Inner (inners.Negated k)) p)
+    (cond (c == 60) (turned (spots.Inner (inners.Quoted k)) p) (variable w k p)))
 
 -- A label that stands for the call and the return begins, with its returned pattern.
 abbrev pub whole_begins : List ℕ → ℕ → ℕ → State → State
-whole_begins w c k p = begins w c k (at (labelled (opened kinds.Both k 0) p.cursor) p)
+whole_begins w c k p = begins w c k (at (labelled (opened kinds.Both 0) p.cursor) p)
 
 -- LINES
 -- A statement ends.
@@ -246,11 +246,11 @@ route_moved routes.Colon p w = turned (spots.Label labels.Begin) p
 abbrev pub label_moved : Label → State → List ℕ → ℕ → ℕ → State
 label_moved labels.Begin p w c k =
     cond (c == 42) (turned (spots.Label labels.Star) p)
-    (cond (same w (codes "call")) (at (to (spots.Label labels.Callee) (labelled (opened kinds.Call k 1) p.cursor)) p)
-    (cond (same w (codes "ret")) (at (to (spots.Inner inners.Returned) (labelled (opened kinds.Return k 0) p.cursor)) p)
+    (cond (same w (codes "call")) (at (to (spots.Label labels.Callee) (labelled (opened kinds.Call 1) p.cursor)) p)
+    (cond (same w (codes "ret")) (at (to (spots.Inner inners.Returned) (labelled (opened kinds.Return 0) p.cursor)) p)
     (whole_begins w c k p)))
 label_moved labels.Star p w c k =
-    cond (c == 58) (at (to (spots.Label labels.Equals) (labelled (opened kinds.Both k 1) p.cursor)) p)
+    cond (c == 58) (at (to (spots.Label labels.Equals) (labelled (opened kinds.Both 1) p.cursor)) p)
     (cond (c == 59) (at (to (spots.Label labels.Begin) (met events.Any p.cursor)) p) (ends_statement (at (met events.Any p.cursor) p)))
 label_moved labels.Becomes p w c k = turned (spots.Label labels.Equals) p
 label_moved labels.Equals p w c k = turned (spots.Label labels.Callee) p
@@ -263,8 +263,8 @@ abbrev pub inner_moved : Inner → State → List ℕ → ℕ → ℕ → State
 inner_moved inners.Returned p w c k = begins w c k p
 inner_moved inners.First p w c k = cond (c == 41) (at (finished p.cursor) p) (begins w c k p)
 inner_moved inners.Param p w c k = begins w c k p
-inner_moved inners.Negated p w c k = patterned (variable_key w) patterns.Differs p.cursor.label.place p
-inner_moved inners.Quoted p w c k = turned (spots.Inner inners.Unquote) (patterned (constant_key w) patterns.Same p.cursor.label.place p)
+inner_moved (inners.Negated n) p w c k = patterned (variable_key w) patterns.Differs n p
+inner_moved (inners.Quoted n) p w c k = turned (spots.Inner inners.Unquote) (patterned (constant_key w) patterns.Same n p)
 inner_moved inners.Unquote p w c k = turned (spots.Label (cond (p.cursor.label.count == 1) labels.Becomes labels.Comma)) p
 
 abbrev pub moved_at : Spot → State → List ℕ → ℕ → ℕ → State

@@ -5,15 +5,14 @@ ghost use Rattle.property.specs.Cursors.{blank, opened, sourced, origin, filled,
 use crate::spot::*;
 use crate::table::*;
 
-// The label that is being read: its kind, its method, where its pattern began, how many patterns have been read, of which the returned one counts as the first
-// also where there is none, the patterns, and the registers that it writes.
+// The label that is being read: its kind, its method, how many patterns have been read, of which the returned one counts as the first also where there is none,
+// the patterns, and the registers that it writes.
 // Kept arrays: the label is public and `Copy`, which an ArrayVec is not.
 #[derive(Clone, Copy)]
 pub struct Partial {
     pub kind: Kind,
     pub number: u32,
     pub arity: usize,
-    pub place: usize,
     pub count: usize,
     pub returned: Slot,
     pub slots: [Slot; 5],
@@ -39,15 +38,14 @@ const BLANK: Slot = Slot {
 };
 
 impl Partial {
-    // A label that begins, of a kind, at a place, with so many patterns.
-    pub(crate) fn opened(kind: Kind, place: usize, count: usize) -> Partial
-        ensures { result ≡ opened kind place count }
+    // A label that begins, of a kind, with so many patterns.
+    pub(crate) fn opened(kind: Kind, count: usize) -> Partial
+        ensures { result ≡ opened kind count }
     {
         Partial {
             kind,
             number: 0,
             arity: 0,
-            place,
             count,
             returned: BLANK,
             slots: [BLANK; 5],
@@ -95,7 +93,7 @@ impl Cursor {
     {
         Cursor {
             spot: Spot::Head(Head::Margin),
-            label: Partial::opened(Kind::Call, 0, 1),
+            label: Partial::opened(Kind::Call, 1),
             statement: Statement::sourced(0),
             starts: false,
             errs: false,

@@ -227,7 +227,7 @@ impl Reading<'_> {
         match inner {
             Inner::First if found.byte == b')' => self.closing_flaw(),
             Inner::Returned | Inner::First | Inner::Param => self.pattern_flaw(found),
-            Inner::Negated | Inner::Quoted => name_flaw(spelled(self.text, found.name)),
+            Inner::Negated(_) | Inner::Quoted(_) => name_flaw(spelled(self.text, found.name)),
             Inner::Unquote => None,
         }
     }

@@ -212,33 +212,33 @@ impl Draft {
         ensures { OnOk result (view text.now self.new ≡ state.begins (spelling text.now found.name) found.byte found.name.from (view text.now self.old)) }
     {
         let place = found.name.from;
-        self.cursor = match found.byte {
-            b'*' => self.cursor.filled(Slot {
-                pattern: Pattern::Any,
-                place,
-            }),
-            b'!' => self.cursor.placed(place, Inner::Negated),
-            b'<' => self.cursor.placed(place, Inner::Quoted),
+        match found.byte {
+            b'*' => {
+                let pattern = Pattern::Any;
+                self.cursor = self.cursor.filled(Slot { pattern, place });
+            }
+            b'!' => self.cursor.spot = Spot::Inner(Inner::Negated(place)),
+            b'<' => self.cursor.spot = Spot::Inner(Inner::Quoted(place)),
             _ => return self.variable(text, found.name),
-        };
+        }
         Ok(())
     }
 
-    // A variable is read that the value has to differ from.
-    fn negated(&mut self, text: &[u8], name: Name) -> Result<(), AllocError>
-        ensures { OnOk result (view text.now self.new ≡ state.inner_moved Inner.Negated (view text.now self.old) (spelling text.now name) 0 0) }
+    // A variable is read that the value has to differ from, in a pattern that began at a place.
+    fn negated(&mut self, text: &[u8], name: Name, place: usize) -> Result<(), AllocError>
+        ensures { OnOk result (view text.now self.new ≡ state.inner_moved (Inner.Negated place) (view text.now self.old) (spelling text.now name) 0 0) }
     {
-        let register = self.hold(text, Register::Variable(name))?;
-        self.cursor = self.cursor.inside(Pattern::Differs(register));
+        let pattern = Pattern::Differs(self.hold(text, Register::Variable(name))?);
+        self.cursor = self.cursor.filled(Slot { pattern, place });
         Ok(())
     }
 
-    // A constant is read.
-    fn quoted(&mut self, text: &[u8], name: Name) -> Result<(), AllocError>
-        ensures { OnOk result (view text.now self.new ≡ state.inner_moved Inner.Quoted (view text.now self.old) (spelling text.now name) 0 0) }
+    // A constant is read, in a pattern that began at a place.
+    fn quoted(&mut self, text: &[u8], name: Name, place: usize) -> Result<(), AllocError>
+        ensures { OnOk result (view text.now self.new ≡ state.inner_moved (Inner.Quoted place) (view text.now self.old) (spelling text.now name) 0 0) }
     {
-        let register = self.hold(text, Register::Constant(name))?;
-        self.cursor = self.cursor.inside(Pattern::Same(register));
+        let pattern = Pattern::Same(self.hold(text, Register::Constant(name))?);
+        self.cursor = self.cursor.filled(Slot { pattern, place });
         self.cursor.spot = Spot::Inner(Inner::Unquote);
         Ok(())
     }
@@ -252,28 +252,11 @@ fn begins_capital(w: &[u8]) -> bool
 }
 
 impl Cursor {
-    // The cursor, where a pattern begins at a place and goes on inside.
-    fn placed(mut self, place: usize, inner: Inner) -> Cursor
-        ensures { result ≡ cursor.to (Spot.Inner inner) (cursor.labelled (cursor.placed place self.label) self) }
+    // The cursor, where a label begins, of a kind, with so many patterns, and goes on at a spot.
+    fn labelled(mut self, kind: Kind, count: usize, spot: Spot) -> Cursor
+        ensures { result ≡ cursor.to spot (cursor.labelled (cursor.opened kind count) self) }
     {
-        self.label.place = place;
-        self.spot = Spot::Inner(inner);
-        self
-    }
-
-    // The cursor, where the pattern is read that began at the label's place.
-    fn inside(self, pattern: Pattern<usize>) -> Cursor
-        ensures { result ≡ cursor.filled (record { pattern = pattern; place = self.label.place }) self }
-    {
-        let place = self.label.place;
-        self.filled(Slot { pattern, place })
-    }
-
-    // The cursor, where a label begins, of a kind, at a place, with so many patterns, and goes on at a spot.
-    fn labelled(mut self, kind: Kind, place: usize, count: usize, spot: Spot) -> Cursor
-        ensures { result ≡ cursor.to spot (cursor.labelled (cursor.opened kind place count) self) }
-    {
-        self.label = Partial::opened(kind, place, count);
+        self.label = Partial::opened(kind, count);
         self.spot = spot;
         self
     }
@@ -321,7 +304,7 @@ impl Draft {
         ensures { OnOk result (view text.now self.new ≡ state.whole_begins (spelling text.now found.name) found.byte found.name.from (view text.now self.old)) }
     {
         let spot = self.cursor.spot;
-        self.cursor = self.cursor.labelled(Kind::Both, found.name.from, 0, spot);
+        self.cursor = self.cursor.labelled(Kind::Both, 0, spot);
         self.pattern(text, found)
     }
 
@@ -330,15 +313,14 @@ impl Draft {
         ensures { OnOk result (view text.now self.new ≡ state.label_moved Label.Begin (view text.now self.old) (spelling text.now found.name) found.byte found.name.from) }
     {
         let w = spelled(text, found.name);
-        let place = found.name.from;
         if found.byte == b'*' {
             self.cursor.spot = Spot::Label(Label::Star);
         } else if w == b"call".as_slice() {
             let spot = Spot::Label(Label::Callee);
-            self.cursor = self.cursor.labelled(Kind::Call, place, 1, spot);
+            self.cursor = self.cursor.labelled(Kind::Call, 1, spot);
         } else if w == b"ret".as_slice() {
             let spot = Spot::Inner(Inner::Returned);
-            self.cursor = self.cursor.labelled(Kind::Return, place, 0, spot);
+            self.cursor = self.cursor.labelled(Kind::Return, 0, spot);
         } else {
             return self.whole(text, found);
         }
@@ -351,7 +333,7 @@ impl Draft {
     {
         if found.byte == b':' {
             let spot = Spot::Label(Label::Equals);
-            self.cursor = self.cursor.labelled(Kind::Both, found.name.from, 1, spot);
+            self.cursor = self.cursor.labelled(Kind::Both, 1, spot);
             return Ok(());
         }
         self.cursor = self.cursor.met(Event::Any);
@@ -405,8 +387,8 @@ impl Draft {
         match inner {
             Inner::First if found.byte == b')' => self.cursor = self.cursor.finished(),
             Inner::Returned | Inner::First | Inner::Param => return self.pattern(text, found),
-            Inner::Negated => return self.negated(text, found.name),
-            Inner::Quoted => return self.quoted(text, found.name),
+            Inner::Negated(place) => return self.negated(text, found.name, place),
+            Inner::Quoted(place) => return self.quoted(text, found.name, place),
             Inner::Unquote => self.cursor.spot = self.cursor.unquoted(),
         }
         Ok(())

@@ -105,8 +105,8 @@ impl Inner {
         match self {
             Inner::Returned | Inner::Param => begins_pattern(b),
             Inner::First => b == b')' || begins_pattern(b),
-            Inner::Negated => b.is_ascii_lowercase(),
-            Inner::Quoted => b.is_ascii_alphabetic(),
+            Inner::Negated(_) => b.is_ascii_lowercase(),
+            Inner::Quoted(_) => b.is_ascii_alphabetic(),
             Inner::Unquote => b == b'>',
         }
     }

@@ -41,14 +41,15 @@ pub enum Label {
     End,
 }
 
-// In a pattern: where the returned one begins, where the first parameter or a closing bracket stands, where another begins, and inside of one.
+// In a pattern: where the returned one begins, where the first parameter or a closing bracket stands, where another begins, and inside of one, after `!` or `<`
+// with the place of that mark.
 #[derive(Clone, Copy)]
 pub enum Inner {
     Returned,
     First,
     Param,
-    Negated,
-    Quoted,
+    Negated(usize),
+    Quoted(usize),
     Unquote,
 }
 
