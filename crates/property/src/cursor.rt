@@ -7,7 +7,6 @@ use crate::table::*;
 
 // The label that is being read: its kind, its method, how many patterns have been read, of which the returned one counts as the first also where there is none,
 // the patterns, and the registers that it writes.
-// Kept arrays: the label is public and `Copy`, which an ArrayVec is not.
 #[derive(Clone, Copy)]
 pub struct Partial {
     pub kind: Kind,
@@ -15,23 +14,25 @@ pub struct Partial {
     pub arity: usize,
     pub count: usize,
     pub returned: Slot,
+    // Kept an array: the label is public and `Copy`, which an ArrayVec is not.
     pub slots: [Slot; 5],
+    // Kept flags: the label is public and `Copy`, which no set of std is, and a set would take heap for eight registers.
     pub written: [bool; 8],
 }
 
 // A place in the grammar: the spot, the label and the statement that are being read, and whether `start` and `error` have been written.
-// Kept two bools, `starts` and `errs`: each holds or not by itself and has no value beside it, so an enum would have a variant for each of the four cases.
 #[derive(Clone, Copy)]
 pub struct Cursor {
     pub spot: Spot,
     pub label: Partial,
     pub statement: Statement,
+    // Kept two bools: each holds or not by itself and has no value beside it, so an enum would have a variant for each of the four cases.
     pub starts: bool,
     pub errs: bool,
 }
 
 // A slot that nothing was written into.
-// Kept a filler, and 0 for a target that is not read yet: all who read a finished statement would have to ask an Option of each.
+// Kept a filler: the places of an array that do not count hold something, and whoever reads a finished call would have to ask an Option of those that do.
 const BLANK: Slot = Slot {
     pattern: Pattern::Any,
     place: 0,
@@ -79,6 +80,7 @@ impl Statement {
     {
         Statement {
             source,
+            // Kept 0 until the target is read: the finished property has statements of this type, and whoever reads one would have to ask an Option of it.
             target: 0,
             events: [Event::Any; 4],
             span: 0,

@@ -1,11 +1,11 @@
 // The faults of a piece where it stands.
-ghost use Rattle.std.specs.Prelude.{◌≡◌, ℕ, ◌+◌, ◌<◌, ◌≤◌, true, false, nat_le, List, [], length, drop, if◌then◌else◌, Some, None};
+ghost use Rattle.std.specs.Prelude.{◌≡◌, ℕ, ◌+◌, ◌<◌, ◌≤◌, true, false, nat_le, List, [], length, if◌then◌else◌, Some, None};
 ghost use Rattle.property.specs.Grammar.{name_flaws, arity_flaws, line_flaws, route_flaws, pattern_flaws, closing_flaws, label_flaws, inner_flaws, flaws, wants_word, worst, variable_flaws, begun_flaws, fresh_flaws};
 ghost use Rattle.kinds.specs.Refusals.{text_number};
 ghost use Rattle.property.specs.Cursors.{wrote};
 ghost use Rattle.property.specs.States as state;
 ghost use Rattle.property.specs.States.{State};
-ghost use Rattle.property.specs.Views.{told, seen, spelled as spelling, name_of, is_constant};
+ghost use Rattle.property.specs.Views.{told, seen, piece, rest, spelled as spelling, name_of, is_constant};
 
 use crate::draft::*;
 use crate::marks::*;
@@ -134,7 +134,7 @@ impl Reading<'_> {
 
     // The fault of a pattern.
     fn pattern_flaw(&self, found: Found) -> Option<TextReason>
-        ensures { told result ≡ worst (pattern_flaws false (seen self.now) (spelling self.now.text.now found.name) found.byte (drop found.name.to self.now.text.now)) }
+        ensures { told result ≡ worst (pattern_flaws false (seen self.now) (piece self.now found) found.byte (rest self.now found)) }
     {
         match found.byte {
             b'*' => None,
@@ -152,7 +152,7 @@ impl Reading<'_> {
 
     // The fault of a variable.
     fn variable_flaw(&self, found: Found) -> Option<TextReason>
-        ensures { told result ≡ worst (variable_flaws false (seen self.now) (spelling self.now.text.now found.name) found.byte) }
+        ensures { told result ≡ worst (variable_flaws false (seen self.now) (piece self.now found) found.byte) }
     {
         let twice = found.byte.is_ascii_uppercase() && self.twice(found.name);
         self.fresh_variable_flaw(found.name)
@@ -169,7 +169,7 @@ impl Reading<'_> {
 
     // The fault of what begins a label.
     fn begin_flaw(&self, found: Found) -> Option<TextReason>
-        ensures { told result ≡ worst (label_flaws Label.Begin (seen self.now) (spelling self.now.text.now found.name) found.byte (drop found.name.to self.now.text.now)) }
+        ensures { told result ≡ worst (label_flaws Label.Begin (seen self.now) (piece self.now found) found.byte (rest self.now found)) }
     {
         let span = self.draft.cursor.statement.span;
         let w = spelled(self.text, found.name);
@@ -184,7 +184,7 @@ impl Reading<'_> {
 
     // The fault of a pattern that begins a label.
     fn begun_flaw(&self, found: Found) -> Option<TextReason>
-        ensures { told result ≡ worst (begun_flaws (nat_le 3 self.now.draft.now.cursor.statement.span) (seen self.now) (spelling self.now.text.now found.name) found.byte (drop found.name.to self.now.text.now)) }
+        ensures { told result ≡ worst (begun_flaws (nat_le 3 self.now.draft.now.cursor.statement.span) (seen self.now) (piece self.now found) found.byte (rest self.now found)) }
     {
         if self.draft.cursor.statement.span >= 3 {
             return late_flaw(spelled(self.text, found.name), found.byte);
@@ -210,7 +210,7 @@ impl Reading<'_> {
 
     // The fault of a piece of a label.
     fn label_flaw(&self, label: Label, found: Found) -> Option<TextReason>
-        ensures { told result ≡ worst (label_flaws label (seen self.now) (spelling self.now.text.now found.name) found.byte (drop found.name.to self.now.text.now)) }
+        ensures { told result ≡ worst (label_flaws label (seen self.now) (piece self.now found) found.byte (rest self.now found)) }
     {
         match label {
             Label::Begin => self.begin_flaw(found),
@@ -222,7 +222,7 @@ impl Reading<'_> {
 
     // The fault of a piece of a pattern.
     fn inner_flaw(&self, inner: Inner, found: Found) -> Option<TextReason>
-        ensures { told result ≡ worst (inner_flaws inner (seen self.now) (spelling self.now.text.now found.name) found.byte (drop found.name.to self.now.text.now)) }
+        ensures { told result ≡ worst (inner_flaws inner (seen self.now) (piece self.now found) found.byte (rest self.now found)) }
     {
         match inner {
             Inner::First if found.byte == b')' => self.closing_flaw(),
@@ -234,7 +234,7 @@ impl Reading<'_> {
 
     // The fault of a piece; the first by number.
     pub(crate) fn flaw(&self, found: Found) -> Option<TextReason>
-        ensures { told result ≡ worst (flaws (seen self.now) (spelling self.now.text.now found.name) found.byte (drop found.name.to self.now.text.now)) }
+        ensures { told result ≡ worst (flaws (seen self.now) (piece self.now found) found.byte (rest self.now found)) }
     {
         let w = spelled(self.text, found.name);
         match self.draft.cursor.spot {

@@ -170,6 +170,7 @@ impl Draft {
             }
             Line::MethodNumber => Spot::Line(Line::MethodArity(capped(spelled(text, name)))),
             Line::MethodArity(number) => {
+                // Kept `as`: std has no `From` of u32 for usize.
                 self.add_method(number, capped(spelled(text, name)) as usize)?;
                 Spot::Line(Line::Ending)
             }

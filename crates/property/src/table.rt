@@ -5,7 +5,7 @@ ghost use Rattle.property.specs.Views.{name_of};
 pub use topl::pattern::Pattern;
 
 // A name, by the bytes of the text from one place up to another.
-// Kept as places: a slice of the text would tie the draft to the text's borrow, and a String would take memory for each name.
+// Kept places: a slice of the text would tie the draft to the text's borrow, and a String would take memory for each name.
 #[derive(Clone, Copy)]
 pub struct Name {
     pub from: usize,
@@ -46,11 +46,11 @@ pub struct Slot {
 }
 
 // A call of a method: of its slots as many count as the method has parameters.
-// Kept an array: the type is public and `Copy`, which an ArrayVec is not.
 #[derive(Clone, Copy)]
 pub struct Call {
     pub number: u32,
     pub arity: usize,
+    // Kept an array: the type is public and `Copy`, which an ArrayVec is not.
     pub slots: [Slot; 5],
 }
 
@@ -70,11 +70,11 @@ pub enum Event {
 }
 
 // A statement: of its events as many count as it spans.
-// Kept an array, as in a call.
 #[derive(Clone, Copy)]
 pub struct Statement {
     pub source: usize,
     pub target: usize,
+    // Kept an array with its count: the type is public and `Copy`, which an ArrayVec is not.
     pub events: [Event; 4],
     pub span: usize,
 }

@@ -57,7 +57,6 @@ impl Draft {
     pub fn new(heap: Global) -> Draft
         ensures { (t : List ℕ) → view t result ≡ nothing_read }
     {
-        // Kept an empty name where none is read yet: the view of a finished draft gives its name without a case.
         let nowhere = Name { from: 0, to: 0 };
         Draft {
             cursor: Cursor::origin(),

@@ -54,6 +54,7 @@ pub(crate) fn same_variable(a: &[u8], b: &[u8]) -> bool
 
 impl Register {
     // Whether two constants or variables have one register.
+    // Kept beside no `PartialEq`: a name is two places, and which bytes stand there only the text says.
     pub(crate) fn same(self, other: Register, text: &[u8]) -> bool
         ensures { result ≡ same_key (key_of text.now self) (key_of text.now other) }
     {
@@ -112,7 +113,7 @@ pub(crate) fn decimal(digits: &[u8]) -> Option<u16>
 }
 
 // The number that digits write, where all over 65,535 stand as one.
-// Kept a number past the limit: the definition capped gives it, and each of the two callers would make it of an Option.
+// Kept 65,536 for what is too large: the text has a fault there, and an Option would have to go on into the spot and the method.
 pub(crate) fn capped(digits: &[u8]) -> u32
     ensures { result ≡ most digits.now }
 {
