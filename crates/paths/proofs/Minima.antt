@@ -12,7 +12,7 @@ lesser None b = b
 lesser (Some n) None = Some n
 lesser (Some n) (Some m) = Some (min n m)
 
-lesser_assoc : (a b c : Option ℕ) → lesser (lesser a b) c ≡ lesser a (lesser b c)
+pub lesser_assoc : (a b c : Option ℕ) → lesser (lesser a b) c ≡ lesser a (lesser b c)
 lesser_assoc None b c = refl
 lesser_assoc (Some n) None c = refl
 lesser_assoc (Some n) (Some m) None = refl
@@ -24,7 +24,7 @@ fold_from n m (k ∷ ns) =
     let e : min (min n m) k ≡ min n (min m k) = omega arith in
     ap (λ (i : ℕ). fold min i ns) e ∙ fold_from n (min m k) ns
 
-least_more : (n : ℕ) (ns : List ℕ) → least (n ∷ ns) ≡ lesser (Some n) (least ns)
+pub least_more : (n : ℕ) (ns : List ℕ) → least (n ∷ ns) ≡ lesser (Some n) (least ns)
 least_more n [] = refl
 least_more n (m ∷ ns) = ap Some (fold_from n m ns)
 

@@ -7,6 +7,7 @@ use Rattle.property.specs.declared.table.Event.{Event}
 use Rattle.topl.specs.declared.pattern.Pattern.{Pattern}
 use Rattle.topl.specs.declared.pattern.Pattern.TheVariants as patterns
 use Rattle.property.specs.declared.table.Register.{Register}
+use Rattle.property.specs.declared.table.Register.TheVariants as registers
 use Rattle.property.specs.declared.table.Slot.{Slot}
 use Rattle.property.specs.declared.table.Statement.{Statement}
 
@@ -49,6 +50,11 @@ pub record OpenRead (ss : List Statement) (x n : ℕ) : Type 0 where
 abbrev pub FirstOpen : List Statement → ℕ → Option ℕ → Type 0
 FirstOpen ss x None = (n : ℕ) → OpenRead ss x n → ⊥
 FirstOpen ss x (Some n) = OpenRead ss x n × ((m : ℕ) → OpenRead ss x m → n ≤ m)
+
+-- The same of a register that holds a variable; of a constant's register there is none.
+abbrev pub FirstHere : List Statement → ℕ → Register → Option ℕ → Type 0
+FirstHere ss x (registers.Constant n) o = o ≡ None
+FirstHere ss x (registers.Variable n) o = FirstOpen ss x o
 
 -- A register that holds a variable.
 abbrev pub Variable : List Register → ℕ → Type 0

@@ -1,11 +1,11 @@
 // Paths of statements, the reads that one reaches unwritten, and the reading of a property text whole.
 #![tactic(auto)]
 
-ghost use Rattle.std.specs.Prelude.{◌≡◌, ℕ, true, false, ◌&&◌, not, [], length, get_or, set, filter, Decides, MatchOption};
-ghost use Rattle.std.specs.List.{cons_option, filter_map};
-ghost use Rattle.paths.specs.Paths.{Unwritten, Sound, Closed, unset, slot_writes, event_writes, statement_writes, state as state_of};
+ghost use Rattle.std.specs.Prelude.{◌≡◌, ℕ, true, false, length, get_or, set, filter, Decides, MatchOption};
+ghost use Rattle.std.specs.List.{filter_map};
+ghost use Rattle.paths.specs.Paths.{slot_writes, event_writes, statement_writes, state as state_of};
 ghost use Rattle.paths.specs.Paths.{slots_of, events_of, through};
-ghost use Rattle.paths.specs.Reads.{read_place as place_of, reads_in, exposed, least, FirstOpen, FirstOf};
+ghost use Rattle.paths.specs.Reads.{read_place as place_of, reads_in, exposed, least, FirstOpen, FirstHere, FirstOf};
 
 use property::table::*;
 use std::slice;
@@ -94,11 +94,11 @@ fn statement_read(statement: &Statement, x: usize) -> Option<usize>
 }
 
 // A search for the states that paths of statements reach with no write of a register, and those that it has found.
-// Kept an array of flags: a set of std takes heap, and this search cannot fail; an ArrayVec of the found states would owe that no state is in it twice.
 #[derive(Clone, Copy)]
 struct Reached<'a> {
     statements: &'a [Statement],
     register: usize,
+    // Kept flags: a set of std takes heap, and this search cannot fail for want of memory; an ArrayVec of the found states would owe that it never holds one twice.
     seen: [bool; 17],
     ghost whole: { length seen ≡ 17 },
 }
@@ -178,23 +178,23 @@ fn first_read(statements: &[Statement], x: usize) -> Option<usize>
     Reached::all(statements, x).least_read()
 }
 
-// The smaller of two numbers, of which each may be missing.
-fn lesser(a: Option<usize>, b: Option<usize>) -> Option<usize>
-    ensures { result ≡ least (cons_option a (cons_option b [])) }
+// The least place at which a register is read that some path of statements has not written by then, if it holds a variable.
+fn variable_read(statements: &[Statement], x: usize, register: &Register) -> Option<usize>
+    ensures { FirstHere statements.now x register.now result }
 {
-    a.into_iter().chain(b).min()
+    match register {
+        Register::Constant(_) => None,
+        Register::Variable(_) => first_read(statements, x),
+    }
 }
 
 // The least place at which a variable is read that some path of statements has not written by then.
 pub(crate) fn unwritten_read(statements: &[Statement], registers: &[Register]) -> Option<usize>
     ensures { FirstOf statements.now registers.now (length registers.now) result }
 {
-    // Kept a loop: of `enumerate().filter_map(..).min()` the goal `returns` stays open, since FirstOpen tells a read by no equation.
-    let mut best: Option<usize> = None;
-    for (x, g) in registers.iter().enumerate() {
-        if let Register::Variable(_) = g {
-            best = lesser(best, first_read(statements, x));
-        }
-    }
-    best
+    registers
+        .iter()
+        .enumerate()
+        .filter_map(|(x, g)| variable_read(statements, x, g))
+        .min()
 }
