@@ -31,13 +31,6 @@ module _ (t : List ℕ) (p : State) (a f : ℕ) (g : Gapped (tight_at p.cursor.s
     all : drop a t ≡ slice t a f
     all = split t a f g.low ∙ (ap (λ (x : List ℕ). slice t a f ++ x) (drop_all f t (omega arith)) ∙ append-nil (slice t a f))
 
-    pub finished : ends_at p.cursor.spot (slice t a f) ≡ true → Finished p t a
-    finished e = record {
-      spaces = subst (Every space) (sym all) g.spaces;
-      none = λ h. all ∙ g.none h;
-      ends = subst (λ (s : List ℕ). ends_at p.cursor.spot s ≡ true) (sym all) e;
-    }
-
     pub broken : ends_at p.cursor.spot (slice t a f) ≡ false → Halts p t a 10 f
     broken e =
         let l = g.low in
