@@ -37,12 +37,6 @@ least_option : (o : Option ℕ) (ns : List ℕ) → least (cons_option o ns) ≡
 least_option None ns = refl
 least_option (Some n) ns = least_more n ns
 
-pub least_two : (o p : Option ℕ) → least (cons_option o (cons_option p [])) ≡ lesser o p
-least_two None None = refl
-least_two None (Some m) = refl
-least_two (Some n) None = refl
-least_two (Some n) (Some m) = refl
-
 -- The least of the leasts of some lists is the least of them together.
 pub least_flat : {A : Type 0} (f : A → List ℕ) (xs : List A) → least (filter_map (λ a. least (f a)) xs) ≡ least (flat_map f xs)
 least_flat f [] = refl

@@ -85,18 +85,6 @@ impl Draft {
     }
 }
 
-impl Cursor {
-    // The cursor after a byte that stands before the first line's keyword.
-    fn margin(mut self, byte: u8) -> Cursor
-        ensures { result ≡ state.margin byte self }
-    {
-        if byte != b' ' {
-            self.spot = Spot::Head(Head::Keyword(1));
-        }
-        self
-    }
-}
-
 // Where a letter of the keyword leads, with so many read before it.
 fn after_letter(read: usize) -> Head
     ensures { result ≡ state.after_letter read }
@@ -113,7 +101,8 @@ impl Draft {
         ensures { (t : List ℕ) → view t self.new ≡ state.head_moved head (view t self.old) (spelling t found.name) found.byte }
     {
         match head {
-            Head::Margin => self.cursor = self.cursor.margin(found.byte),
+            Head::Margin if found.byte == b' ' => {}
+            Head::Margin => self.cursor.spot = Spot::Head(Head::Keyword(1)),
             Head::Keyword(read) => self.cursor.spot = Spot::Head(after_letter(read)),
             Head::Gap => self.cursor.spot = Spot::Head(Head::Title),
             Head::Title => {
