@@ -1,14 +1,14 @@
 -- Each way on which the reading of a piece ends.
 use Rattle.std.proofs.Common.{◌≡◌, ℕ, ◌+◌, ◌-◌, ◌<◌, ◌≤◌, Bool, true, false, cond, List, [], ◌∷◌, ◌++◌, length, get_or, drop, IsErrAnd, Some, None, Ok, Err, Result, sym, refl, ap, ◌∙◌, subst, append-nil, arith, MatchResult}
 use Rattle.std.proofs.lemmas.List.{drop_more, drop_all}
-use Rattle.forms.specs.Bytes.{space, digit, Every}
+use Rattle.forms.specs.Bytes.{digit}
 use Rattle.forms.specs.Forms.{Refused}
 use Rattle.forms.specs.Grammars.{form, Closed}
 use Rattle.forms.specs.Pieces.{Piece, word, number, mark, head_of, Next}
 use Rattle.forms.specs.Steps.{Step}
 use Rattle.forms.proofs.Driver.{pass, bad_refused, off_refused, zero_refused, broken_refused}
 use Rattle.property.specs.Grammar.{text, bytes, opens, tight_at, ends_at, flaws, worst, Marked}
-use Rattle.property.specs.Reads.{Gapped, Lexed, Halts, Finished, Read}
+use Rattle.property.specs.Reads.{Gapped, Lexed, Halts, Read}
 use Rattle.property.specs.States.{State, moved}
 use Rattle.property.specs.Views.{slice, spelled}
 use Rattle.kinds.specs.Refusals.{text_number}

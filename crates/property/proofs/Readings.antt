@@ -2,7 +2,7 @@
 use Rattle.std.proofs.Common.{◌≡◌, ℕ, ◌+◌, ◌-◌, ◌<◌, ◌≤◌, Bool, true, false, ◌&&◌, eqb, ltb, List, [], ◌∷◌, length, get_or, take, drop, sym, refl, ap, ◌∙◌, subst, inl, inr, arith}
 use Rattle.std.proofs.lemmas.Bool.{cases_lt}
 use Rattle.std.proofs.lemmas.Bool.Decides.{nat_tests}
-use Rattle.forms.specs.Bytes.{space, digit, letter, wordy, Every, Word, Decimal}
+use Rattle.forms.specs.Bytes.{space, digit, letter, wordy, Word, Decimal}
 use Rattle.forms.specs.Pieces.{word, number, mark, head_of}
 use Rattle.forms.proofs.Laws.{apart}
 use Rattle.forms.proofs.Lexing.{letter_wordy}

@@ -12,7 +12,7 @@ both ss ts gs hs o e f x =
 pub returns-in-Some : goal.returns-in-Some
 returns-in-Some c = (
   subst (Refuses c.args.text.now) (sym c.into.ensures)
-  (inr (refl, (c.read.new.draft, c.in_ok-read.ensures, both _ _ _ _ (Some c.in-Some.place) c.deref.ensures.value c.deref-2.ensures.value c.in-Some.ensures))),
+      (inr (refl, (c.read.new.draft, c.in_ok-read.ensures, both _ _ _ _ (Some c.in-Some.place) c.deref.ensures.value c.deref-2.ensures.value c.in-Some.ensures))),
   refl,
 )
 

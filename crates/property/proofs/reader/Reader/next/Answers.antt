@@ -1,7 +1,7 @@
-use Rattle.std.proofs.Common.{sym, ◌∙◌, arith}
+use Rattle.std.proofs.Common.{sym, ◌∙◌}
 use Rattle.kinds.specs.declared.text_reason.TextReason.TheVariants as reasons
 use Rattle.property.specs.Views.{view}
-use Rattle.property.proofs.Exits.{broken, out, at_flaw}
+use Rattle.property.proofs.Exits.{broken, at_flaw}
 use Rattle.property.proofs.reader.Reader.next.Goals as goal
 
 pub returns-then-from-self : goal.returns-then-from-self
