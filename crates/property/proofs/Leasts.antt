@@ -63,26 +63,6 @@ none_marked (f ∷ fs) e m (inr x) = elim (cases_Bool f.0) [
   | inr t ↦ none_marked fs (sym (worst_false f fs t) ∙ e) m x
 ]
 
--- One fault after another is looked for.
-pub or_else_worst : (a r : Option TextReason) (Q : Type 0) (fs gs : List (Bool × ℕ)) → MatchOption a Q (λ x. r ≡ Some x) → told a ≡ worst fs → (Q → told r ≡ worst gs)
-    → told r ≡ worst (fs ++ gs)
-or_else_worst (Some x) r Q fs gs m e f = ap told m ∙ found fs (text_number x) (sym e)
-  where
-    found : (hs : List (Bool × ℕ)) (n : ℕ) → worst hs ≡ Some n → Some n ≡ worst (hs ++ gs)
-    found [] n e = some_none None n e refl
-    found (h ∷ hs) n e = elim (cases_Bool h.0) [
-      | inl t ↦ sym e ∙ (worst_true h hs t ∙ sym (worst_true h (hs ++ gs) t))
-      | inr t ↦ found hs n (sym (worst_false h hs t) ∙ e) ∙ sym (worst_false h (hs ++ gs) t)
-    ]
-or_else_worst None r Q fs gs m e f = f m ∙ passed fs (sym e)
-  where
-    passed : (hs : List (Bool × ℕ)) → worst hs ≡ None → worst gs ≡ worst (hs ++ gs)
-    passed [] e = refl
-    passed (h ∷ hs) e = elim (cases_Bool h.0) [
-      | inl t ↦ some_none (worst (h ∷ hs)) h.1 (worst_true h hs t) e
-      | inr t ↦ passed hs (sym (worst_false h hs t) ∙ e) ∙ sym (worst_false h (hs ++ gs) t)
-    ]
-
 rising_0 : Rising []
 rising_0 = record { up = tt }
 

@@ -1,5 +1,5 @@
 -- The grammar of a property text: what may come at each spot, and the faults of what stands there.
-use Rattle.std.specs.Prelude.{◌≡◌, ℕ, ◌+◌, Bool, true, false, cond, not, ◌&&◌, ◌||◌, ◌⊎◌, List, [], ◌∷◌, length, Some, None, codes, Option, ◌==◌, nat_eq, nat_le, nat_lt, slice_index_or}
+use Rattle.std.specs.Prelude.{◌≡◌, ℕ, ◌+◌, Bool, true, false, cond, not, ◌&&◌, ◌||◌, ◌⊎◌, List, [], ◌∷◌, ◌++◌, length, Some, None, codes, Option, ◌==◌, nat_eq, nat_le, nat_lt, slice_index_or}
 use Rattle.std.specs.List.{list_any}
 use Rattle.forms.specs.Bytes.{space, digit, capital, small, letter, wordy, value}
 use Rattle.forms.specs.Forms.{Form, bounded}
@@ -101,6 +101,10 @@ tight_at (spots.Inner i) = false
 abbrev pub name_flaws : List ℕ → List (Bool × ℕ)
 name_flaws w = (reserved w, 10) ∷ (long w, 11) ∷ []
 
+-- Those of a name that needs room; b says that there is none.
+abbrev pub room_flaws : Bool → List ℕ → List (Bool × ℕ)
+room_flaws b w = (reserved w, 10) ∷ (long w || b, 11) ∷ []
+
 -- Those of an arity.
 abbrev pub arity_flaws : List ℕ → List (Bool × ℕ)
 arity_flaws w = (nat_lt 5 (value w), 11) ∷ []
@@ -111,11 +115,17 @@ head_flaws (heads.Keyword n) w = []
 head_flaws heads.Gap w = []
 head_flaws heads.Title w = name_flaws w
 
+-- There is no room for a statement that leaves the state w.
+abbrev pub full : State → List ℕ → Bool
+full p w = nat_le 64 (length p.sofar.statements) || crowded p w
+
+-- Those of a statement's source.
+abbrev pub source_flaws : State → List ℕ → List (Bool × ℕ)
+source_flaws p w = room_flaws (full p w) w ++ (same w (codes "error"), 16) ∷ []
+
 abbrev pub line_flaws : Line → State → List ℕ → List (Bool × ℕ)
 line_flaws lines.Ending p w = []
-line_flaws lines.Fresh p w =
-    cond (declares p w) ((nat_le 32 (length p.sofar.methods), 11) ∷ [])
-    ((reserved w, 10) ∷ (long w || (nat_le 64 (length p.sofar.statements) || crowded p w), 11) ∷ (same w (codes "error"), 16) ∷ [])
+line_flaws lines.Fresh p w = cond (declares p w) ((nat_le 32 (length p.sofar.methods), 11) ∷ []) (source_flaws p w)
 line_flaws lines.MethodName p w = (reserved w, 10) ∷ (long w, 11) ∷ (nat_lt (method_place p.sofar w) (length p.sofar.methods), 12) ∷ []
 line_flaws lines.MethodNumber p w = (nat_lt 65535 (value w), 11) ∷ (list_any (λ m. nat_eq (value w) m.number) p.sofar.methods, 12) ∷ []
 line_flaws (lines.MethodArity n) p w = arity_flaws w
@@ -123,7 +133,7 @@ line_flaws (lines.MethodArity n) p w = arity_flaws w
 abbrev pub route_flaws : Route → State → List ℕ → List (Bool × ℕ)
 route_flaws routes.Minus p w = []
 route_flaws routes.Greater p w = []
-route_flaws routes.Target p w = (reserved w, 10) ∷ (long w || crowded p w, 11) ∷ []
+route_flaws routes.Target p w = room_flaws (crowded p w) w
 route_flaws routes.Colon p w = []
 
 -- After `!` or `<`, with r to come, a good name stands that needs a ninth register.
@@ -137,12 +147,14 @@ wants P constant r = wants_word P constant (front wordy (past space r))
 
 -- Those of a variable that begins a label, and of any other; `late` says that its label goes past the fourth event.
 abbrev pub fresh_flaws : Bool → State → List ℕ → List (Bool × ℕ)
-fresh_flaws late p w = (reserved w, 10) ∷ (long w || (late || ninth p.sofar (variable_key w)), 11) ∷ []
+fresh_flaws late p w = room_flaws (late || ninth p.sofar (variable_key w)) w
+
+-- The label would write the variable w, which begins with c, again.
+abbrev pub written_twice : State → List ℕ → ℕ → Bool
+written_twice p w c = capital c && wrote p.cursor.label.written (register_of p.sofar (variable_key w))
 
 abbrev pub variable_flaws : Bool → State → List ℕ → ℕ → List (Bool × ℕ)
-variable_flaws late p w c =
-    (reserved w, 10) ∷ (long w || (late || ninth p.sofar (variable_key w)), 11)
-    ∷ (capital c && wrote p.cursor.label.written (register_of p.sofar (variable_key w)), 14) ∷ []
+variable_flaws late p w c = fresh_flaws late p w ++ (written_twice p w c, 14) ∷ []
 
 -- Those of a pattern.
 abbrev pub pattern_flaws : Bool → State → List ℕ → ℕ → List ℕ → List (Bool × ℕ)

@@ -1,6 +1,6 @@
 // Where a reader stands in a property text, with what it holds of the line that it reads.
 ghost use Rattle.std.specs.Prelude.{◌≡◌, ◌+◌};
-ghost use Rattle.property.specs.Cursors.{blank, opened, sourced, origin, filled, met, finished, targeted, writing, one_if, wrote};
+ghost use Rattle.property.specs.Cursors.{opened, sourced, origin, filled, met, finished, writing, one_if, wrote};
 
 use crate::spot::*;
 use crate::table::*;

@@ -1,8 +1,7 @@
 // The faults of a piece where it stands.
-ghost use Rattle.std.specs.Prelude.{◌≡◌, ℕ, ◌+◌, ◌<◌, ◌≤◌, true, false, nat_le, List, [], length, if◌then◌else◌, Some, None};
-ghost use Rattle.property.specs.Grammar.{name_flaws, arity_flaws, line_flaws, route_flaws, pattern_flaws, closing_flaws, label_flaws, inner_flaws, flaws, wants_word, worst, variable_flaws, begun_flaws, fresh_flaws};
+ghost use Rattle.std.specs.Prelude.{◌≡◌, ℕ, true, false, nat_le, List, [], if◌then◌else◌, Some, None};
+ghost use Rattle.property.specs.Grammar.{name_flaws, room_flaws, arity_flaws, full, source_flaws, line_flaws, route_flaws, pattern_flaws, closing_flaws, label_flaws, inner_flaws, flaws, wants_word, worst, written_twice, variable_flaws, begun_flaws, fresh_flaws};
 ghost use Rattle.kinds.specs.Refusals.{text_number};
-ghost use Rattle.property.specs.Cursors.{wrote};
 ghost use Rattle.property.specs.States as state;
 ghost use Rattle.property.specs.States.{State};
 ghost use Rattle.property.specs.Views.{told, seen, piece, rest, spelled as spelling, name_of, is_constant};
@@ -29,14 +28,21 @@ fn too_much(b: bool) -> Option<TextReason>
     fault(b, TextReason::TooMuch)
 }
 
-// The fault of a name.
-fn name_flaw(w: &[u8]) -> Option<TextReason>
-    ensures { told result ≡ worst (name_flaws w.now) }
+// The fault of a name that needs room, where a test says that there is none.
+fn room_flaw(w: &[u8], full: bool) -> Option<TextReason>
+    ensures { told result ≡ worst (room_flaws full w.now) }
 {
     if reserved(w) {
         return Some(TextReason::NoForm);
     }
-    too_much(w.len() > 12)
+    too_much(w.len() > 12 || full)
+}
+
+// The fault of a name.
+fn name_flaw(w: &[u8]) -> Option<TextReason>
+    ensures { told result ≡ worst (name_flaws w.now) }
+{
+    room_flaw(w, false)
 }
 
 // The fault of a method's arity.
@@ -46,7 +52,6 @@ fn arity_flaw(w: &[u8]) -> Option<TextReason>
     too_much(decimal(w).is_none_or(|n| n > 5))
 }
 
-// Kept tests of the draft before `or_else`, where each is asked even if the name has a fault: of a closure that asks it, a proof learns nothing (goals `returns`).
 impl Reading<'_> {
     // Whether a state would be the seventeenth.
     fn crowded(&self, w: &[u8]) -> bool
@@ -62,8 +67,21 @@ impl Reading<'_> {
     fn state_flaw(&self, w: &[u8]) -> Option<TextReason>
         ensures { told result ≡ worst (route_flaws Route.Target (seen self.now) w.now) }
     {
-        let crowded = self.crowded(w);
-        name_flaw(w).or_else(|| too_much(crowded))
+        room_flaw(w, self.crowded(w))
+    }
+
+    // Whether there is no room for a statement that leaves a state.
+    fn full(&self, w: &[u8]) -> bool
+        ensures { result ≡ full (seen self.now) w.now }
+    {
+        self.draft.statements.len() >= 64 || self.crowded(w)
+    }
+
+    // The fault of a statement's source.
+    fn source_flaw(&self, w: &[u8]) -> Option<TextReason>
+        ensures { told result ≡ worst (source_flaws (seen self.now) w.now) }
+    {
+        room_flaw(w, self.full(w)).or(fault(is_error(w), TextReason::LeavesError))
     }
 
     // The fault of a line's first word.
@@ -73,26 +91,21 @@ impl Reading<'_> {
         if self.declares(w) {
             return too_much(self.draft.methods.len() >= 32);
         }
-        let full = self.draft.statements.len() >= 64 || self.crowded(w);
-        name_flaw(w)
-            .or_else(|| too_much(full))
-            .or_else(|| fault(is_error(w), TextReason::LeavesError))
+        self.source_flaw(w)
     }
 
     // The fault of the name of a method that a line declares.
     fn method_flaw(&self, w: &[u8]) -> Option<TextReason>
         ensures { told result ≡ worst (line_flaws Line.MethodName (seen self.now) w.now) }
     {
-        let known = self.knows(w);
-        name_flaw(w).or_else(|| fault(known, TextReason::BadMethod))
+        name_flaw(w).or(fault(self.knows(w), TextReason::BadMethod))
     }
 
     // The fault of the name of a method that a label calls.
     fn callee_flaw(&self, w: &[u8]) -> Option<TextReason>
         ensures { told result ≡ worst (label_flaws Label.Callee (seen self.now) w.now 0 []) }
     {
-        let known = self.knows(w);
-        name_flaw(w).or_else(|| fault(!known, TextReason::BadMethod))
+        name_flaw(w).or(fault(!self.knows(w), TextReason::BadMethod))
     }
 
     // The fault of a method's number.
@@ -122,14 +135,12 @@ impl Reading<'_> {
         register.well_begun(self.text) && !reserved(w) && w.len() <= 12 && self.ninth(register)
     }
 
-    // Whether the label writes a variable already.
-    fn twice(&self, name: Name) -> bool
-        ensures { result ≡ wrote self.now.draft.now.cursor.label.written (state.register_of (seen self.now).sofar (state.variable_key (spelling self.now.text.now name))) }
+    // Whether the label would write a variable again.
+    fn twice(&self, found: Found) -> bool
+        ensures { result ≡ written_twice (seen self.now) (piece self.now found) found.byte }
     {
-        self.draft
-            .cursor
-            .label
-            .writes(self.register_number(Register::Variable(name)))
+        let register = self.register_number(Register::Variable(found.name));
+        found.byte.is_ascii_uppercase() && self.draft.cursor.label.writes(register)
     }
 
     // The fault of a pattern.
@@ -154,9 +165,8 @@ impl Reading<'_> {
     fn variable_flaw(&self, found: Found) -> Option<TextReason>
         ensures { told result ≡ worst (variable_flaws false (seen self.now) (piece self.now found) found.byte) }
     {
-        let twice = found.byte.is_ascii_uppercase() && self.twice(found.name);
         self.fresh_variable_flaw(found.name)
-            .or_else(|| fault(twice, TextReason::WrittenTwice))
+            .or(fault(self.twice(found), TextReason::WrittenTwice))
     }
 
     // The fault of a variable that begins a label: nothing is written by then.
@@ -164,7 +174,7 @@ impl Reading<'_> {
         ensures { told result ≡ worst (fresh_flaws false (seen self.now) (spelling self.now.text.now name)) }
     {
         let ninth = self.ninth(Register::Variable(name));
-        name_flaw(spelled(self.text, name)).or_else(|| too_much(ninth))
+        room_flaw(spelled(self.text, name), ninth)
     }
 
     // The fault of what begins a label.

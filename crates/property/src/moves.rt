@@ -1,5 +1,5 @@
 // What each piece of a text adds to a draft.
-ghost use Rattle.std.specs.Prelude.{◌≡◌, ℕ, ◌+◌, ◌<◌, ◌≤◌, true, false, List, [], ◌∷◌, ◌++◌, length, if◌then◌else◌, OnOk, IfOk, nat_eq};
+ghost use Rattle.std.specs.Prelude.{◌≡◌, ℕ, List, [], if◌then◌else◌, OnOk, IfOk, nat_eq};
 ghost use Rattle.property.specs.Moves.{visit, hold, declare, number_of, arity_of};
 ghost use Rattle.forms.specs.Bytes.{capital};
 ghost use Rattle.property.specs.Cursors as cursor;

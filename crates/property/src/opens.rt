@@ -1,6 +1,6 @@
 // Which bytes may come at each spot, and where a text may end.
-ghost use Rattle.std.specs.Prelude.{◌≡◌, ℕ, List};
-ghost use Rattle.property.specs.Grammar.{head_opens, line_opens, route_opens, pattern_opens, label_opens, inner_opens, opens_at, tight_at, none_left, line_ends, label_ends, ends_at};
+ghost use Rattle.std.specs.Prelude.{◌≡◌};
+ghost use Rattle.property.specs.Grammar.{head_opens, line_opens, route_opens, pattern_opens, label_opens, inner_opens, opens_at, tight_at, line_ends, label_ends, ends_at};
 
 use crate::marks::*;
 use crate::spot::*;

@@ -1,5 +1,5 @@
 // Reading a whole property text into a draft.
-ghost use Rattle.std.specs.Prelude.{◌≡◌, ℕ, List, Decides, MatchResult, nat_eq};
+ghost use Rattle.std.specs.Prelude.{◌≡◌, ℕ, List, Decides, MatchResult};
 ghost use Rattle.forms.specs.Forms.{Accepted, Before};
 ghost use Rattle.kinds.specs.Refusals.{text_number};
 ghost use Rattle.property.specs.Grammar.{any_text, property_text};
@@ -7,7 +7,6 @@ ghost use Rattle.property.specs.States.{nothing_read, routed as routes};
 ghost use Rattle.property.specs.Outcomes.{Explains, ExplainsBounded};
 ghost use Rattle.property.specs.Views.{view, sofar};
 ghost use Rattle.property.specs.declared.text.Failure.TheVariants.{At, Memory};
-ghost use Rattle.std.specs.List.{list_any};
 
 use crate::cursor::*;
 use crate::draft::*;

@@ -1,5 +1,5 @@
 // Words of a text, and numbers.
-ghost use Rattle.std.specs.Prelude.{◌≡◌, ◌+◌, ◌-◌, ◌*◌, ◌<◌, ◌≤◌, min, length, drop, if◌then◌else◌, ◌==◌, not, nat_le, position, Some, None};
+ghost use Rattle.std.specs.Prelude.{◌≡◌, ◌+◌, ◌-◌, ◌*◌, min, length, drop, if◌then◌else◌, ◌==◌, not, nat_le, position, Some, None};
 ghost use Rattle.forms.specs.Bytes.{letter, small, value, space, wordy};
 ghost use Rattle.property.specs.Marks.{in_class};
 ghost use Rattle.property.specs.Reading.{Passed};
