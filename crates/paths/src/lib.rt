@@ -142,7 +142,7 @@ impl<'a> Reached<'a> {
         !statement_written(s, self.register) && self.has(s.source) && !self.has(s.target)
     }
 
-    // A state to which a statement leads from them with no write, and which is not among them.
+    // A state that is not found, to which a statement leads from a found one with no write.
     fn beyond(&self) -> Option<usize>
         ensures { MatchOption result (Complete self.now) (Beyond self.now) }
     {
@@ -150,7 +150,7 @@ impl<'a> Reached<'a> {
         Some(found.target)
     }
 
-    // All states that paths reach with no write.
+    // The search that has found all states that paths reach with no write.
     fn all(statements: &'a [Statement], register: usize) -> Reached<'a>
         ensures searched { Searches statements.now register result }
         ensures exact { Exact result }
@@ -162,7 +162,7 @@ impl<'a> Reached<'a> {
         reached
     }
 
-    // The least place at which a statement that leaves a found state reads the register with no earlier event of it that writes it.
+    // The least place at which a statement that leaves a found state reads the register, with no write by an earlier event of it.
     fn least_read(&self) -> Option<usize>
         ensures { result ≡ least (filter_map (λ s. least (exposed self.now.register (events_of s))) (filter (λ s. found self.now s.source) self.now.statements.now)) }
     {

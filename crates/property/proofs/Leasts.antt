@@ -1,14 +1,11 @@
 -- The first fault of a piece is the least.
-use Rattle.std.proofs.Common.{◌≡◌, ℕ, ◌≤◌, Bool, true, false, cond, ◌||◌, eqb, leb, List, [], ◌∷◌, ◌++◌, Some, None, Option, MatchOption, codes, sym, refl, ap, ◌∙◌, inl, inr, arith}
+use Rattle.std.proofs.Common.{◌≡◌, ℕ, ◌≤◌, Bool, true, false, cond, ◌||◌, eqb, leb, List, [], ◌∷◌, Some, None, codes, sym, refl, ap, ◌∙◌, inl, inr, arith}
 use Rattle.std.proofs.lemmas.Bool.{cases_Bool}
 use Rattle.forms.specs.Bytes.{letter}
 use Rattle.forms.proofs.Laws.{apart}
 use Rattle.forms.proofs.Driver.{some_none, some_same}
 use Rattle.property.specs.Grammar.{Marked, worst, wants, flaws_at, pattern_flaws, variable_flaws, begun_flaws, fresh_flaws, closing_flaws}
-use Rattle.kinds.specs.Refusals.{text_number}
-use Rattle.kinds.specs.declared.text_reason.TextReason.{TextReason}
 use Rattle.property.specs.States.{State, declares}
-use Rattle.property.specs.Views.{told}
 use Rattle.property.specs.Words.{same}
 use Rattle.property.specs.declared.spot.Head.TheVariants as heads
 use Rattle.property.specs.declared.spot.Inner.TheVariants as inners

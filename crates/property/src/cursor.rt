@@ -32,7 +32,8 @@ pub struct Cursor {
 }
 
 // A slot that nothing was written into.
-// Kept a filler: the places of an array that do not count hold something, and whoever reads a finished call would have to ask an Option of those that do.
+// Kept a filler, for places of an array that do not count and for a returned pattern that is not read: whoever reads a finished call or return would have to
+// ask an Option of each pattern that is there.
 const BLANK: Slot = Slot {
     pattern: Pattern::Any,
     place: 0,
@@ -45,6 +46,7 @@ impl Partial {
     {
         Partial {
             kind,
+            // Kept 0 for the number and the arity until the method is read: an Option would have to be something where the label ends, which its method always precedes.
             number: 0,
             arity: 0,
             count,
