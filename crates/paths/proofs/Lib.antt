@@ -1,2 +1,3 @@
+pub mod Chains
 pub mod Minima
 pub mod Registers

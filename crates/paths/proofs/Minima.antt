@@ -12,7 +12,7 @@ lesser None b = b
 lesser (Some n) None = Some n
 lesser (Some n) (Some m) = Some (min n m)
 
-lesser_assoc : (a b c : Option ℕ) → lesser (lesser a b) c ≡ lesser a (lesser b c)
+pub lesser_assoc : (a b c : Option ℕ) → lesser (lesser a b) c ≡ lesser a (lesser b c)
 lesser_assoc None b c = refl
 lesser_assoc (Some n) None c = refl
 lesser_assoc (Some n) (Some m) None = refl
@@ -24,7 +24,7 @@ fold_from n m (k ∷ ns) =
     let e : min (min n m) k ≡ min n (min m k) = omega arith in
     ap (λ (i : ℕ). fold min i ns) e ∙ fold_from n (min m k) ns
 
-least_more : (n : ℕ) (ns : List ℕ) → least (n ∷ ns) ≡ lesser (Some n) (least ns)
+pub least_more : (n : ℕ) (ns : List ℕ) → least (n ∷ ns) ≡ lesser (Some n) (least ns)
 least_more n [] = refl
 least_more n (m ∷ ns) = ap Some (fold_from n m ns)
 
@@ -36,12 +36,6 @@ least_append (x ∷ xs) ys =
 least_option : (o : Option ℕ) (ns : List ℕ) → least (cons_option o ns) ≡ lesser o (least ns)
 least_option None ns = refl
 least_option (Some n) ns = least_more n ns
-
-pub least_two : (o p : Option ℕ) → least (cons_option o (cons_option p [])) ≡ lesser o p
-least_two None None = refl
-least_two None (Some m) = refl
-least_two (Some n) None = refl
-least_two (Some n) (Some m) = refl
 
 -- The least of the leasts of some lists is the least of them together.
 pub least_flat : {A : Type 0} (f : A → List ℕ) (xs : List A) → least (filter_map (λ a. least (f a)) xs) ≡ least (flat_map f xs)

@@ -1,11 +1,14 @@
 -- Over registers: one more, which holds a constant or a variable.
-use Rattle.std.proofs.Common.{◌≡◌, ℕ, ◌+◌, ◌<◌, true, false, ◌⊎◌, List, length, get_or, min, Some, None, Option, sym, ap, ◌∙◌, subst, inl, inr, arith}
-use Rattle.std.proofs.lemmas.List.{get_or_default}
+use Rattle.std.proofs.Common.{◌≡◌, ℕ, ◌+◌, ◌<◌, true, false, ◌⊎◌, List, [], ◌∷◌, length, get_or, drop, min, Some, None, Option, refl, sym, ap, ◌∙◌, subst, inl, inr, arith}
+use Rattle.std.proofs.lemmas.List.{get_or_default, drop_more}
+use Rattle.std.specs.List.{enumerate_from}
 use Rattle.std.proofs.lemmas.Bool.{cases_lt, true≢false}
-use Rattle.paths.proofs.Minima.{lesser}
-use Rattle.paths.specs.Reads.{OpenRead, FirstOpen, Variable, FirstOf}
+use Rattle.paths.proofs.Chains.{Gives, none, skips, takes}
+use Rattle.paths.proofs.Minima.{lesser, lesser_assoc, least_more}
+use Rattle.paths.specs.Reads.{least, OpenRead, FirstOpen, FirstHere, Variable, FirstOf}
 use Rattle.property.specs.Views.{is_constant}
 use Rattle.property.specs.declared.table.Register.{Register}
+use Rattle.property.specs.declared.table.Register.TheVariants as registers
 use Rattle.property.specs.declared.table.Statement.{Statement}
 
 module _ (ss : List Statement) (gs : List Register) (i : ℕ) where
@@ -61,3 +64,39 @@ module _ (ss : List Statement) (gs : List Register) (i : ℕ) where
       | inr y ↦ (let z = g.1 k (moved x k y r) in omega arith)
     ],
   )
+
+module _ (ss : List Statement) (gs : List Register) where
+  -- What a register gives.
+  abbrev pub Here : ℕ × Register → Option ℕ → Type 0
+  Here p o = FirstHere ss p.0 p.1 o
+
+  lesser_none : (o : Option ℕ) → lesser o None ≡ o
+  lesser_none None = refl
+  lesser_none (Some n) = refl
+
+  -- One register more, which gives o.
+  one_more : (n : ℕ) (h : Register) (best o : Option ℕ) → n < length gs → get_or gs n h ≡ h → FirstHere ss n h o → FirstOf ss gs n best → FirstOf ss gs (n + 1) (lesser best o)
+  one_more n (registers.Constant w) best o l e r f =
+      subst (λ (p : Option ℕ). FirstOf ss gs (n + 1) (lesser best p)) (sym r)
+      (subst (FirstOf ss gs (n + 1)) (sym (lesser_none best)) (constant_more ss gs n best (registers.Constant w) l (ap is_constant e) f))
+  one_more n (registers.Variable w) best o l e r f = variable_more ss gs n best o (held ss gs n (registers.Variable w) l (ap is_constant e)) f r
+
+  -- The first of the registers from n on.
+  at_head : (n : ℕ) (h : Register) (hs : List Register) → n < length gs → drop n gs ≡ h ∷ hs → (get_or gs n h ≡ h) × (drop (n + 1) gs ≡ hs)
+  at_head n h hs l e = let k : get_or gs n h ∷ drop (n + 1) gs ≡ h ∷ hs = sym (drop_more gs n h l) ∙ e in (cc, cc)
+
+  pub over : (n : ℕ) (hs : List Register) (zs : List ℕ) (best : Option ℕ) → n + length hs ≡ length gs → drop n gs ≡ hs → Gives Here (enumerate_from n hs) zs → FirstOf ss gs n best
+      → FirstOf ss gs (length gs) (lesser best (least zs))
+  over n [] _ best e d none f =
+      let k : n ≡ length gs = omega arith in subst (λ (m : ℕ). FirstOf ss gs m (lesser best None)) k (subst (FirstOf ss gs n) (sym (lesser_none best)) f)
+  over n (h ∷ hs) zs best e d (skips r g) f =
+      let l : n < length gs = omega arith in
+      let m : (n + 1) + length hs ≡ length gs = omega arith in
+      let y = at_head n h hs l d in
+      over (n + 1) hs zs best m y.1 g (subst (FirstOf ss gs (n + 1)) (lesser_none best) (one_more n h best None l y.0 r f))
+  over n (h ∷ hs) (z ∷ zs) best e d (takes r g) f =
+      let l : n < length gs = omega arith in
+      let m : (n + 1) + length hs ≡ length gs = omega arith in
+      let y = at_head n h hs l d in
+      subst (FirstOf ss gs (length gs)) (lesser_assoc best (Some z) (least zs) ∙ ap (lesser best) (sym (least_more z zs)))
+      (over (n + 1) hs zs (lesser best (Some z)) m y.1 g (one_more n h best (Some z) l y.0 r f))

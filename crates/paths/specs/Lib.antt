@@ -1,3 +1,4 @@
 pub mod Outcomes
 pub mod Paths
 pub mod Reads
+pub mod Search

@@ -3,13 +3,13 @@ use Rattle.std.specs.Prelude.{◌≡◌, ℕ, suc, ◌<◌, Bool, true, false, c
 use Rattle.std.specs.List.{list_any}
 use Rattle.property.specs.declared.table.Event.{Event}
 use Rattle.property.specs.declared.table.Event.TheVariants as events
-use Rattle.property.specs.declared.table.Pattern.{Pattern}
-use Rattle.property.specs.declared.table.Pattern.TheVariants as patterns
+use Rattle.topl.specs.declared.pattern.Pattern.{Pattern}
+use Rattle.topl.specs.declared.pattern.Pattern.TheVariants as patterns
 use Rattle.property.specs.declared.table.Slot.{Slot}
 use Rattle.property.specs.declared.table.Statement.{Statement}
 
 -- Whether a pattern writes the register x.
-abbrev pub pattern_writes : ℕ → Pattern → Bool
+abbrev pub pattern_writes : ℕ → Pattern ℕ → Bool
 pattern_writes x patterns.Any = false
 pattern_writes x (patterns.Write r) = r == x
 pattern_writes x (patterns.Same r) = false

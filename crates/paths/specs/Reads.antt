@@ -4,14 +4,15 @@ use Rattle.std.specs.List.{filter_map, flat_map, reduce}
 use Rattle.paths.specs.Paths.{slots_of, events_of, event_writes, through, state, Unwritten}
 use Rattle.property.specs.Views.{is_constant}
 use Rattle.property.specs.declared.table.Event.{Event}
-use Rattle.property.specs.declared.table.Pattern.{Pattern}
-use Rattle.property.specs.declared.table.Pattern.TheVariants as patterns
+use Rattle.topl.specs.declared.pattern.Pattern.{Pattern}
+use Rattle.topl.specs.declared.pattern.Pattern.TheVariants as patterns
 use Rattle.property.specs.declared.table.Register.{Register}
+use Rattle.property.specs.declared.table.Register.TheVariants as registers
 use Rattle.property.specs.declared.table.Slot.{Slot}
 use Rattle.property.specs.declared.table.Statement.{Statement}
 
 -- Whether a pattern reads the register x.
-abbrev pub pattern_reads : ℕ → Pattern → Bool
+abbrev pub pattern_reads : ℕ → Pattern ℕ → Bool
 pattern_reads x patterns.Any = false
 pattern_reads x (patterns.Write r) = false
 pattern_reads x (patterns.Same r) = r == x
@@ -49,6 +50,11 @@ pub record OpenRead (ss : List Statement) (x n : ℕ) : Type 0 where
 abbrev pub FirstOpen : List Statement → ℕ → Option ℕ → Type 0
 FirstOpen ss x None = (n : ℕ) → OpenRead ss x n → ⊥
 FirstOpen ss x (Some n) = OpenRead ss x n × ((m : ℕ) → OpenRead ss x m → n ≤ m)
+
+-- The same of a register that holds a variable; of a constant's register there is none.
+abbrev pub FirstHere : List Statement → ℕ → Register → Option ℕ → Type 0
+FirstHere ss x (registers.Constant n) o = o ≡ None
+FirstHere ss x (registers.Variable n) o = FirstOpen ss x o
 
 -- A register that holds a variable.
 abbrev pub Variable : List Register → ℕ → Type 0

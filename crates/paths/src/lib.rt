@@ -1,11 +1,11 @@
 // Paths of statements, the reads that one reaches unwritten, and the reading of a property text whole.
 #![tactic(auto)]
 
-ghost use Rattle.std.specs.Prelude.{◌≡◌, ℕ, true, false, ◌&&◌, not, [], length, get_or, set, filter, Decides, MatchOption};
-ghost use Rattle.std.specs.List.{cons_option, filter_map};
-ghost use Rattle.paths.specs.Paths.{Unwritten, Sound, Closed, unset, slot_writes, event_writes, statement_writes, state as state_of};
+ghost use Rattle.std.specs.Prelude.{◌≡◌, ℕ, true, false, length, get_or, set, filter, Decides, MatchOption};
+ghost use Rattle.std.specs.List.{filter_map};
+ghost use Rattle.paths.specs.Paths.{slot_writes, event_writes, statement_writes, state as state_of};
 ghost use Rattle.paths.specs.Paths.{slots_of, events_of, through};
-ghost use Rattle.paths.specs.Reads.{read_place as place_of, reads_in, exposed, least, FirstOpen, FirstOf};
+ghost use Rattle.paths.specs.Reads.{read_place as place_of, reads_in, exposed, least, FirstOpen, FirstHere, FirstOf};
 
 use property::table::*;
 use std::slice;
@@ -93,99 +93,108 @@ fn statement_read(statement: &Statement, x: usize) -> Option<usize>
     heard.iter().filter_map(|e| event_read(e, x)).min()
 }
 
-// The states that are found to be reached with no write of a register.
-// Kept the statements and the register as parameters: a struct of the two would be made at one place, and each function here would take it apart.
+// A search for the states that paths of statements reach with no write of a register, and those that it has found.
 #[derive(Clone, Copy)]
-struct Reached {
+struct Reached<'a> {
+    statements: &'a [Statement],
+    register: usize,
+    // Kept flags: a set of std takes heap, and this search cannot fail for want of memory; an ArrayVec of the found states would owe that it never holds one twice.
     seen: [bool; 17],
     ghost whole: { length seen ≡ 17 },
 }
 
-impl Reached {
-    // No state but the start.
-    fn start() -> Reached
-        ensures { (q : ℕ) → Decides (get_or result.seen q false) (q ≡ 0) }
+impl<'a> Reached<'a> {
+    ghost use Rattle.paths.specs.Search.{Searches, found, leads, Complete, Beyond, Exact};
+
+    // A search that has found the start alone.
+    fn start(statements: &'a [Statement], register: usize) -> Reached<'a>
+        ensures searched { Searches statements.now register result }
+        ensures start { (q : ℕ) → Decides (get_or result.seen q false) (q ≡ 0) }
     {
         let mut seen = [false; 17];
         seen[0] = true;
-        Reached { seen }
+        Reached {
+            statements,
+            register,
+            seen,
+        }
     }
 
-    // Whether a state is among them.
+    // Whether a state is found.
     fn has(&self, q: usize) -> bool
-        ensures { result ≡ get_or self.now.seen (state_of q) false }
+        ensures { result ≡ found self.now q }
     {
         self.seen[state(q)]
     }
 
-    // Adds a state.
+    // Finds a state.
     fn add(&mut self, q: usize)
-        ensures { self.new.seen ≡ set self.old.seen (state_of q) true }
+        ensures searched { Searches self.old.statements.now self.old.register self.new }
+        ensures found { self.new.seen ≡ set self.old.seen (state_of q) true }
     {
         self.seen[state(q)] = true;
     }
 
-    // Whether a statement leads from one of them to a state that is not among them, with no write.
-    fn leaves(&self, s: &Statement, x: usize) -> bool
-        ensures { result ≡ (not (statement_writes x s.now)
-            && (get_or self.now.seen (state_of s.now.source) false && not (get_or self.now.seen (state_of s.now.target) false))) }
+    // Whether a statement leads from a found state to one that is not found, with no write.
+    fn leaves(&self, s: &Statement) -> bool
+        ensures { result ≡ leads self.now s.now }
     {
-        !statement_written(s, x) && self.has(s.source) && !self.has(s.target)
+        !statement_written(s, self.register) && self.has(s.source) && !self.has(s.target)
     }
 
-    // A state to which a statement leads from them with no write, and which is not among them.
-    fn beyond(&self, statements: &[Statement], x: usize) -> Option<usize>
-        ensures { MatchOption result (Closed statements.now x self.now.seen)
-            (λ q. (get_or self.now.seen (state_of q) false ≡ false) × (Sound statements.now x self.now.seen → Unwritten statements.now x (state_of q))) }
+    // A state that is not found, to which a statement leads from a found one with no write.
+    fn beyond(&self) -> Option<usize>
+        ensures { MatchOption result (Complete self.now) (Beyond self.now) }
     {
-        let found = statements.iter().find(|s| self.leaves(s, x))?;
+        let found = self.statements.iter().find(|s| self.leaves(s))?;
         Some(found.target)
     }
 
-    // The least place at which a statement that leaves one of them reads a register that no earlier event of it writes.
-    fn least_read(&self, statements: &[Statement], x: usize) -> Option<usize>
-        ensures { result ≡ least (filter_map (λ s. least (exposed x (events_of s))) (filter (λ s. get_or self.now.seen (state_of s.source) false) statements.now)) }
+    // The search that has found all states that paths reach with no write.
+    fn all(statements: &'a [Statement], register: usize) -> Reached<'a>
+        ensures searched { Searches statements.now register result }
+        ensures exact { Exact result }
     {
-        let from = statements.iter().filter(|s| self.has(s.source));
-        from.filter_map(|s| statement_read(s, x)).min()
+        let mut reached = Reached::start(statements, register);
+        while let Some(q) = reached.beyond() {
+            reached.add(q);
+        }
+        reached
     }
-}
 
-// The states that a path of statements reaches with no write of a register.
-fn unwritten(statements: &[Statement], x: usize) -> Reached
-    ensures { (q : ℕ) → Decides (get_or result.seen q false) (Unwritten statements.now x q) }
-{
-    let mut reached = Reached::start();
-    while let Some(q) = reached.beyond(statements, x) {
-        reached.add(q);
+    // The least place at which a statement that leaves a found state reads the register, with no write by an earlier event of it.
+    fn least_read(&self) -> Option<usize>
+        ensures { result ≡ least (filter_map (λ s. least (exposed self.now.register (events_of s))) (filter (λ s. found self.now s.source) self.now.statements.now)) }
+    {
+        let from = self.statements.iter().filter(|s| self.has(s.source));
+        from.filter_map(|s| statement_read(s, self.register)).min()
     }
-    reached
 }
 
 // The least place at which a register is read that some path of statements has not written by then.
 fn first_read(statements: &[Statement], x: usize) -> Option<usize>
     ensures { FirstOpen statements.now x result }
 {
-    unwritten(statements, x).least_read(statements, x)
+    Reached::all(statements, x).least_read()
 }
 
-// The smaller of two numbers, of which each may be missing.
-fn lesser(a: Option<usize>, b: Option<usize>) -> Option<usize>
-    ensures { result ≡ least (cons_option a (cons_option b [])) }
+// The least place at which a register is read that some path of statements has not written by then, if it holds a variable.
+fn variable_read(statements: &[Statement], x: usize, register: &Register) -> Option<usize>
+    ensures { FirstHere statements.now x register.now result }
 {
-    a.into_iter().chain(b).min()
+    match register {
+        Register::Constant(_) => None,
+        Register::Variable(_) => first_read(statements, x),
+    }
 }
 
 // The least place at which a variable is read that some path of statements has not written by then.
 pub(crate) fn unwritten_read(statements: &[Statement], registers: &[Register]) -> Option<usize>
     ensures { FirstOf statements.now registers.now (length registers.now) result }
 {
-    // Kept a loop: of `enumerate().filter_map(..).min()` the goal `returns` stays open, since FirstOpen tells a read by no equation.
-    let mut best: Option<usize> = None;
-    for (x, g) in registers.iter().enumerate() {
-        if let Register::Variable(_) = g {
-            best = lesser(best, first_read(statements, x));
-        }
-    }
-    best
+    registers
+        .iter()
+        .enumerate()
+        .filter_map(|(x, g)| variable_read(statements, x, g))
+        .min()
 }

@@ -16,10 +16,11 @@ pub fn read(heap: Global, text: &[u8], draft: &mut Draft) -> Result<(), Failure>
     let mut found = Draft::new(heap);
     property::text::read(heap, text, &mut found)?;
     if let Some(place) = unwritten_read(&found.statements, &found.registers) {
-        return Err(Failure::At(Flaw {
+        let flaw = Flaw {
             reason: TextReason::UnwrittenRead,
             place,
-        }));
+        };
+        return Err(flaw.into());
     }
     *draft = found;
     Ok(())

@@ -1,14 +1,14 @@
 -- Each way on which the reading of a piece ends.
 use Rattle.std.proofs.Common.{◌≡◌, ℕ, ◌+◌, ◌-◌, ◌<◌, ◌≤◌, Bool, true, false, cond, List, [], ◌∷◌, ◌++◌, length, get_or, drop, IsErrAnd, Some, None, Ok, Err, Result, sym, refl, ap, ◌∙◌, subst, append-nil, arith, MatchResult}
 use Rattle.std.proofs.lemmas.List.{drop_more, drop_all}
-use Rattle.forms.specs.Bytes.{space, digit, Every}
+use Rattle.forms.specs.Bytes.{digit}
 use Rattle.forms.specs.Forms.{Refused}
 use Rattle.forms.specs.Grammars.{form, Closed}
 use Rattle.forms.specs.Pieces.{Piece, word, number, mark, head_of, Next}
 use Rattle.forms.specs.Steps.{Step}
 use Rattle.forms.proofs.Driver.{pass, bad_refused, off_refused, zero_refused, broken_refused}
 use Rattle.property.specs.Grammar.{text, bytes, opens, tight_at, ends_at, flaws, worst, Marked}
-use Rattle.property.specs.Reads.{Gapped, Lexed, Halts, Finished, Read}
+use Rattle.property.specs.Reads.{Gapped, Lexed, Halts, Read}
 use Rattle.property.specs.States.{State, moved}
 use Rattle.property.specs.Views.{slice, spelled}
 use Rattle.kinds.specs.Refusals.{text_number}
@@ -30,13 +30,6 @@ module _ (t : List ℕ) (p : State) (a f : ℕ) (g : Gapped (tight_at p.cursor.s
   module _ (end : f ≡ length t) where
     all : drop a t ≡ slice t a f
     all = split t a f g.low ∙ (ap (λ (x : List ℕ). slice t a f ++ x) (drop_all f t (omega arith)) ∙ append-nil (slice t a f))
-
-    pub finished : ends_at p.cursor.spot (slice t a f) ≡ true → Finished p t a
-    finished e = record {
-      spaces = subst (Every space) (sym all) g.spaces;
-      none = λ h. all ∙ g.none h;
-      ends = subst (λ (s : List ℕ). ends_at p.cursor.spot s ≡ true) (sym all) e;
-    }
 
     pub broken : ends_at p.cursor.spot (slice t a f) ≡ false → Halts p t a 10 f
     broken e =

@@ -6,7 +6,7 @@ use Rattle.forms.specs.Grammars.{Lawful}
 use Rattle.forms.specs.Pieces.{word, number}
 use Rattle.forms.proofs.Laws.{apart}
 use Rattle.forms.proofs.Lexing.{letter_wordy, digit_wordy}
-use Rattle.property.specs.Cursors.{to, counted, filled, labelled, finished, returning, taking, one_more, opened, placed, writing}
+use Rattle.property.specs.Cursors.{to, filled, labelled, finished, returning, taking, opened, writing}
 use Rattle.property.specs.Grammar.{text, opens, opens_at, tight_at, ends_at}
 use Rattle.property.specs.States.{State, at, turned, moved_at, moved, begins, whole_begins, callee_at, variable, variable_key, register_of, patterned, declares, leaving, ends_statement}
 use Rattle.property.specs.Words.{same, first_byte}
@@ -20,7 +20,7 @@ use Rattle.property.specs.declared.spot.Line.TheVariants as lines
 use Rattle.property.specs.declared.spot.Route.TheVariants as routes
 use Rattle.property.specs.declared.spot.Spot.{Spot}
 use Rattle.property.specs.declared.spot.Spot.TheVariants as spots
-use Rattle.property.specs.declared.table.Pattern.TheVariants as patterns
+use Rattle.topl.specs.declared.pattern.Pattern.TheVariants as patterns
 use Rattle.property.specs.declared.table.Slot.{Slot}
 use Rattle.property.proofs.Living.{lives_at}
 
@@ -56,8 +56,7 @@ loose_at false u v h k = k
 
 loose_filled : (x : Slot) (u : Cursor) → tight_at (filled x u).spot ≡ false
 loose_filled x u =
-    loose_at (eqb u.count 0) (to (spots.Label labels.Becomes) (counted 1 (labelled (returning x u.label) u)))
-    (to (spots.Label labels.Comma) (counted (one_more u.count) (labelled (taking u.count x u.label) u))) refl refl
+    loose_at (eqb u.label.count 0) (to (spots.Label labels.Becomes) (labelled (returning x u.label) u)) (to (spots.Label labels.Comma) (labelled (taking x u.label) u)) refl refl
 
 loose_variable : (w : List ℕ) (k : ℕ) (p : State) → Loose (variable w k p)
 loose_variable w k p =
@@ -69,8 +68,8 @@ loose_variable w k p =
 loose_begins : (w : List ℕ) (c k : ℕ) (p : State) → Loose (begins w c k p)
 loose_begins w c k p =
     let x : Slot = record { pattern = patterns.Any; place = k } in
-    let n = at (to (spots.Inner inners.Negated) (labelled (placed k p.cursor.label) p.cursor)) p in
-    let q = at (to (spots.Inner inners.Quoted) (labelled (placed k p.cursor.label) p.cursor)) p in
+    let n = turned (spots.Inner (inners.Negated k)) p in
+    let q = turned (spots.Inner (inners.Quoted k)) p in
     loose_cond (eqb c 42) (at (filled x p.cursor) p) (cond (eqb c 33) n (cond (eqb c 60) q (variable w k p))) (loose _ (loose_filled x p.cursor))
     (loose_cond (eqb c 33) n (cond (eqb c 60) q (variable w k p)) (loose n refl) (loose_cond (eqb c 60) q (variable w k p) (loose q refl) (loose_variable w k p)))
 
@@ -87,9 +86,9 @@ not_after_star : (c : ℕ) → wordy c ≡ true → eqb c 58 || (eqb c 59 || eqb
 not_after_star c h = grind (arith, nat_tests)
 
 -- After a word or a number spaces are free.
-loose_moved : (s : Spot) (p : State) (w : List ℕ) (c k : ℕ) → wordy c ≡ true → tight_at s ≡ false → opens_at s p.cursor.count c ≡ true → Loose (moved_at s p w c k)
+loose_moved : (s : Spot) (p : State) (w : List ℕ) (c k : ℕ) → wordy c ≡ true → tight_at s ≡ false → opens_at s c ≡ true → Loose (moved_at s p w c k)
 loose_moved (spots.Head heads.Margin) p w c k h e o = apart true refl e
-loose_moved (spots.Head heads.Keyword) p w c k h e o = apart true refl e
+loose_moved (spots.Head (heads.Keyword n)) p w c k h e o = apart true refl e
 loose_moved (spots.Head heads.Gap) p w c k h e o = apart true refl e
 loose_moved (spots.Head heads.Title) p w c k h e o = loose _ refl
 loose_moved (spots.Line lines.Ending) p w c k h e o = loose _ refl
@@ -97,19 +96,19 @@ loose_moved (spots.Line lines.Fresh) p w c k h e o =
     loose_cond (declares p w) (turned (spots.Line lines.MethodName) p) (leaving w p) (loose _ refl) (loose _ refl)
 loose_moved (spots.Line lines.MethodName) p w c k h e o = loose _ refl
 loose_moved (spots.Line lines.MethodNumber) p w c k h e o = loose _ refl
-loose_moved (spots.Line lines.MethodArity) p w c k h e o = loose _ refl
+loose_moved (spots.Line (lines.MethodArity n)) p w c k h e o = loose _ refl
 loose_moved (spots.Route routes.Minus) p w c k h e o = not_mark c 45 h refl o
 loose_moved (spots.Route routes.Greater) p w c k h e o = apart true refl e
 loose_moved (spots.Route routes.Target) p w c k h e o = loose _ refl
 loose_moved (spots.Route routes.Colon) p w c k h e o = loose _ refl
 loose_moved (spots.Label labels.Begin) p w c k h e o =
     let a = turned (spots.Label labels.Star) p in
-    let b = at (to (spots.Label labels.Callee) (counted 1 (labelled (opened kinds.Call k) p.cursor))) p in
-    let d = at (to (spots.Inner inners.Returned) (counted 0 (labelled (opened kinds.Return k) p.cursor))) p in
+    let b = at (to (spots.Label labels.Callee) (labelled (opened kinds.Call 1) p.cursor)) p in
+    let d = at (to (spots.Inner inners.Returned) (labelled (opened kinds.Return 0) p.cursor)) p in
     let f = whole_begins w c k p in
     loose_cond (eqb c 42) a (cond (same w (codes "call")) b (cond (same w (codes "ret")) d f)) (loose a refl)
     (loose_cond (same w (codes "call")) b (cond (same w (codes "ret")) d f) (loose b refl)
-    (loose_cond (same w (codes "ret")) d f (loose d refl) (loose_begins w c k (at (counted 0 (labelled (opened kinds.Both k) p.cursor)) p))))
+    (loose_cond (same w (codes "ret")) d f (loose d refl) (loose_begins w c k (at (labelled (opened kinds.Both 0) p.cursor) p))))
 loose_moved (spots.Label labels.Star) p w c k h e o = apart (eqb c 58 || (eqb c 59 || eqb c 10)) o (not_after_star c h)
 loose_moved (spots.Label labels.Becomes) p w c k h e o = not_mark c 58 h refl o
 loose_moved (spots.Label labels.Equals) p w c k h e o = apart true refl e
@@ -123,10 +122,10 @@ loose_moved (spots.Inner inners.Returned) p w c k h e o = loose_begins w c k p
 loose_moved (spots.Inner inners.First) p w c k h e o =
     loose_cond (eqb c 41) (at (finished p.cursor) p) (begins w c k p) (loose _ refl) (loose_begins w c k p)
 loose_moved (spots.Inner inners.Param) p w c k h e o = loose_begins w c k p
-loose_moved (spots.Inner inners.Negated) p w c k h e o =
-    loose _ (loose_filled (record { pattern = patterns.Differs (register_of p.sofar (variable_key w)); place = p.cursor.label.place }) p.cursor)
-loose_moved (spots.Inner inners.Quoted) p w c k h e o = loose _ refl
-loose_moved (spots.Inner inners.Unquote) p w c k h e o = loose _ (which (eqb p.cursor.count 1))
+loose_moved (spots.Inner (inners.Negated n)) p w c k h e o =
+    loose _ (loose_filled (record { pattern = patterns.Differs (register_of p.sofar (variable_key w)); place = n }) p.cursor)
+loose_moved (spots.Inner (inners.Quoted n)) p w c k h e o = loose _ refl
+loose_moved (spots.Inner inners.Unquote) p w c k h e o = loose _ (which (eqb p.cursor.label.count 1))
   where
     which : (b : Bool) → tight_at (spots.Label (cond b labels.Becomes labels.Comma)) ≡ false
     which true = refl

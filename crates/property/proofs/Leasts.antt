@@ -1,14 +1,11 @@
 -- The first fault of a piece is the least.
-use Rattle.std.proofs.Common.{◌≡◌, ℕ, ◌≤◌, Bool, true, false, cond, ◌||◌, eqb, leb, List, [], ◌∷◌, ◌++◌, Some, None, Option, MatchOption, codes, sym, refl, ap, ◌∙◌, inl, inr, arith}
+use Rattle.std.proofs.Common.{◌≡◌, ℕ, ◌≤◌, Bool, true, false, cond, ◌||◌, eqb, leb, List, [], ◌∷◌, Some, None, codes, sym, refl, ap, ◌∙◌, inl, inr, arith}
 use Rattle.std.proofs.lemmas.Bool.{cases_Bool}
 use Rattle.forms.specs.Bytes.{letter}
 use Rattle.forms.proofs.Laws.{apart}
 use Rattle.forms.proofs.Driver.{some_none, some_same}
 use Rattle.property.specs.Grammar.{Marked, worst, wants, flaws_at, pattern_flaws, variable_flaws, begun_flaws, fresh_flaws, closing_flaws}
-use Rattle.kinds.specs.Refusals.{text_number}
-use Rattle.kinds.specs.declared.text_reason.TextReason.{TextReason}
 use Rattle.property.specs.States.{State, declares}
-use Rattle.property.specs.Views.{told}
 use Rattle.property.specs.Words.{same}
 use Rattle.property.specs.declared.spot.Head.TheVariants as heads
 use Rattle.property.specs.declared.spot.Inner.TheVariants as inners
@@ -63,26 +60,6 @@ none_marked (f ∷ fs) e m (inr x) = elim (cases_Bool f.0) [
   | inr t ↦ none_marked fs (sym (worst_false f fs t) ∙ e) m x
 ]
 
--- One fault after another is looked for.
-pub or_else_worst : (a r : Option TextReason) (Q : Type 0) (fs gs : List (Bool × ℕ)) → MatchOption a Q (λ x. r ≡ Some x) → told a ≡ worst fs → (Q → told r ≡ worst gs)
-    → told r ≡ worst (fs ++ gs)
-or_else_worst (Some x) r Q fs gs m e f = ap told m ∙ found fs (text_number x) (sym e)
-  where
-    found : (hs : List (Bool × ℕ)) (n : ℕ) → worst hs ≡ Some n → Some n ≡ worst (hs ++ gs)
-    found [] n e = some_none None n e refl
-    found (h ∷ hs) n e = elim (cases_Bool h.0) [
-      | inl t ↦ sym e ∙ (worst_true h hs t ∙ sym (worst_true h (hs ++ gs) t))
-      | inr t ↦ found hs n (sym (worst_false h hs t) ∙ e) ∙ sym (worst_false h (hs ++ gs) t)
-    ]
-or_else_worst None r Q fs gs m e f = f m ∙ passed fs (sym e)
-  where
-    passed : (hs : List (Bool × ℕ)) → worst hs ≡ None → worst gs ≡ worst (hs ++ gs)
-    passed [] e = refl
-    passed (h ∷ hs) e = elim (cases_Bool h.0) [
-      | inl t ↦ some_none (worst (h ∷ hs)) h.1 (worst_true h hs t) e
-      | inr t ↦ passed hs (sym (worst_false h hs t) ∙ e) ∙ sym (worst_false h (hs ++ gs) t)
-    ]
-
 rising_0 : Rising []
 rising_0 = record { up = tt }
 
@@ -116,14 +93,14 @@ rising_begun late p w c r = rising_cond (letter c) (fresh_flaws late p w) (patte
 
 pub rising_flaws : (s : Spot) (p : State) (w : List ℕ) (c : ℕ) (r : List ℕ) → Rising (flaws_at s p w c r)
 rising_flaws (spots.Head heads.Margin) p w c r = rising_0
-rising_flaws (spots.Head heads.Keyword) p w c r = rising_0
+rising_flaws (spots.Head (heads.Keyword n)) p w c r = rising_0
 rising_flaws (spots.Head heads.Gap) p w c r = rising_0
 rising_flaws (spots.Head heads.Title) p w c r = rising_2 _ _ (omega arith)
 rising_flaws (spots.Line lines.Ending) p w c r = rising_0
 rising_flaws (spots.Line lines.Fresh) p w c r = rising_cond (declares p w) _ _ (rising_1 _) (rising_3 _ _ _ (omega arith) (omega arith))
 rising_flaws (spots.Line lines.MethodName) p w c r = rising_3 _ _ _ (omega arith) (omega arith)
 rising_flaws (spots.Line lines.MethodNumber) p w c r = rising_2 _ _ (omega arith)
-rising_flaws (spots.Line lines.MethodArity) p w c r = rising_1 _
+rising_flaws (spots.Line (lines.MethodArity n)) p w c r = rising_1 _
 rising_flaws (spots.Route routes.Minus) p w c r = rising_0
 rising_flaws (spots.Route routes.Greater) p w c r = rising_0
 rising_flaws (spots.Route routes.Target) p w c r = rising_2 _ _ (omega arith)
@@ -141,6 +118,6 @@ rising_flaws (spots.Label labels.End) p w c r = rising_0
 rising_flaws (spots.Inner inners.Returned) p w c r = rising_pattern false p w c r
 rising_flaws (spots.Inner inners.First) p w c r = rising_cond (eqb c 41) (closing_flaws p.cursor) (pattern_flaws false p w c r) (rising_1 _) (rising_pattern false p w c r)
 rising_flaws (spots.Inner inners.Param) p w c r = rising_pattern false p w c r
-rising_flaws (spots.Inner inners.Negated) p w c r = rising_2 _ _ (omega arith)
-rising_flaws (spots.Inner inners.Quoted) p w c r = rising_2 _ _ (omega arith)
+rising_flaws (spots.Inner (inners.Negated n)) p w c r = rising_2 _ _ (omega arith)
+rising_flaws (spots.Inner (inners.Quoted n)) p w c r = rising_2 _ _ (omega arith)
 rising_flaws (spots.Inner inners.Unquote) p w c r = rising_0

@@ -6,7 +6,7 @@ use Rattle.forms.specs.Bytes.{space, wordy}
 use Rattle.forms.specs.Grammars.{Takes, stop, go, Lives}
 use Rattle.forms.specs.Pieces.{word, number, mark, Next}
 use Rattle.forms.proofs.Lexing.{digit_stops}
-use Rattle.property.specs.Cursors.{to, counted, filled, labelled, naming, finished, returning, taking, one_more}
+use Rattle.property.specs.Cursors.{to, filled, labelled, naming, finished, returning, taking}
 use Rattle.property.specs.Grammar.{text, opens, tight_at}
 use Rattle.property.specs.States.{State, Property, at, turned, moved, leaving, reaching, ends_statement, callee_at, method_of, variable_key, register_of}
 use Rattle.property.specs.declared.cursor.Cursor.{Cursor}
@@ -19,7 +19,7 @@ use Rattle.property.specs.declared.spot.Line.TheVariants as lines
 use Rattle.property.specs.declared.spot.Route.TheVariants as routes
 use Rattle.property.specs.declared.spot.Spot.{Spot}
 use Rattle.property.specs.declared.spot.Spot.TheVariants as spots
-use Rattle.property.specs.declared.table.Pattern.TheVariants as patterns
+use Rattle.topl.specs.declared.pattern.Pattern.TheVariants as patterns
 use Rattle.property.specs.declared.table.Slot.{Slot}
 
 -- At every place some text goes on from p.
@@ -177,15 +177,15 @@ minus p = by_mark (turned (spots.Route routes.Minus) p) (turned (spots.Route rou
 fresh : (p : State) → Living (turned (spots.Line lines.Fresh) p)
 fresh p = by_word (turned (spots.Line lines.Fresh) p) (leaving (97 ∷ []) p) refl refl refl (λ _. refl) (minus (leaving (97 ∷ []) p))
 
-arity : (p : State) → Living (turned (spots.Line lines.MethodArity) p)
-arity p =
-    let q = moved (turned (spots.Line lines.MethodArity) p) (48 ∷ []) 48 0 in
-    by_number (turned (spots.Line lines.MethodArity) p) q refl refl refl (λ _. refl) (ending q)
+arity : (n : ℕ) (p : State) → Living (turned (spots.Line (lines.MethodArity n)) p)
+arity n p =
+    let q = moved (turned (spots.Line (lines.MethodArity n)) p) (48 ∷ []) 48 0 in
+    by_number (turned (spots.Line (lines.MethodArity n)) p) q refl refl refl (λ _. refl) (ending q)
 
 method_number : (p : State) → Living (turned (spots.Line lines.MethodNumber) p)
 method_number p =
     let q = moved (turned (spots.Line lines.MethodNumber) p) (48 ∷ []) 48 0 in
-    by_number (turned (spots.Line lines.MethodNumber) p) q refl refl refl (λ _. refl) (arity q)
+    by_number (turned (spots.Line lines.MethodNumber) p) q refl refl refl (λ _. refl) (arity 0 q)
 
 method_name : (p : State) → Living (turned (spots.Line lines.MethodName) p)
 method_name p =
@@ -201,29 +201,25 @@ gap : (p : State) → Living (turned (spots.Head heads.Gap) p)
 gap p = by_byte (turned (spots.Head heads.Gap) p) (turned (spots.Head heads.Title) p) 32 refl refl (λ _. refl) (title p)
 
 -- In the keyword, at its last letter, and with at most f letters to come after the next.
-last_letter : (p : State) → ltb p.cursor.count 7 ≡ false → Living (turned (spots.Head heads.Keyword) p)
-last_letter p e =
-    by_byte (turned (spots.Head heads.Keyword) p) (turned (spots.Head heads.Gap) p) (get_or (codes "property") p.cursor.count 121) refl (eq-eqb _ _ refl)
-    (λ _. ap (λ (b : Bool). at (cond b (counted (p.cursor.count + 1) (to (spots.Head heads.Keyword) p.cursor)) (to (spots.Head heads.Gap) p.cursor)) p) e) (gap p)
+last_letter : (n : ℕ) (p : State) → ltb n 7 ≡ false → Living (turned (spots.Head (heads.Keyword n)) p)
+last_letter n p e =
+    by_byte (turned (spots.Head (heads.Keyword n)) p) (turned (spots.Head heads.Gap) p) (get_or (codes "property") n 121) refl (eq-eqb _ _ refl)
+    (λ _. ap (λ (b : Bool). turned (spots.Head (cond b (heads.Keyword (n + 1)) heads.Gap)) p) e) (gap p)
 
 far : (n : ℕ) → 7 ≤ n → ltb n 7 ≡ false
 far n h = grind (arith, nat_tests)
 
-keyword : (f : ℕ) (p : State) → 7 ≤ p.cursor.count + f → Living (turned (spots.Head heads.Keyword) p)
-keyword zero p h = last_letter p (far p.cursor.count (omega arith))
-keyword (suc f) p h = elim (cases_Bool (ltb p.cursor.count 7)) [
+keyword : (f n : ℕ) (p : State) → 7 ≤ n + f → Living (turned (spots.Head (heads.Keyword n)) p)
+keyword zero n p h = last_letter n p (far n (omega arith))
+keyword (suc f) n p h = elim (cases_Bool (ltb n 7)) [
   | inl e ↦
-      by_byte (turned (spots.Head heads.Keyword) p) (turned (spots.Head heads.Keyword) (at (counted (p.cursor.count + 1) p.cursor) p))
-      (get_or (codes "property") p.cursor.count 121) refl (eq-eqb _ _ refl)
-      (λ _. ap (λ (b : Bool). at (cond b (counted (p.cursor.count + 1) (to (spots.Head heads.Keyword) p.cursor)) (to (spots.Head heads.Gap) p.cursor)) p) e)
-      (keyword f (at (counted (p.cursor.count + 1) p.cursor) p) (omega arith))
-  | inr e ↦ last_letter p e
+      by_byte (turned (spots.Head (heads.Keyword n)) p) (turned (spots.Head (heads.Keyword (n + 1))) p) (get_or (codes "property") n 121) refl (eq-eqb _ _ refl)
+      (λ _. ap (λ (b : Bool). turned (spots.Head (cond b (heads.Keyword (n + 1)) heads.Gap)) p) e) (keyword f (n + 1) p (omega arith))
+  | inr e ↦ last_letter n p e
 ]
 
 margin : (p : State) → Living (turned (spots.Head heads.Margin) p)
-margin p =
-    let q = turned (spots.Head heads.Keyword) (at (counted 1 p.cursor) p) in
-    by_byte (turned (spots.Head heads.Margin) p) q 112 refl refl (λ _. refl) (keyword 6 (at (counted 1 p.cursor) p) (omega arith))
+margin p = by_byte (turned (spots.Head heads.Margin) p) (turned (spots.Head (heads.Keyword 1)) p) 112 refl refl (λ _. refl) (keyword 6 1 p (omega arith))
 
 first : (p : State) → Living (turned (spots.Inner inners.First) p)
 first p =
@@ -275,14 +271,14 @@ at_cond false u v p = refl
 after_pattern : (x : Slot) (u : Cursor) (p : State) → Living (at (filled x u) p)
 after_pattern x u p =
     subst Living
-    (sym (at_cond (eqb u.count 0) (to (spots.Label labels.Becomes) (counted 1 (labelled (returning x u.label) u))) (to (spots.Label labels.Comma) (counted (one_more u.count) (labelled (taking u.count x u.label) u))) p))
-    (either_way (eqb u.count 0) (at (counted 1 (labelled (returning x u.label) u)) p) (at (counted (one_more u.count) (labelled (taking u.count x u.label) u)) p))
+    (sym (at_cond (eqb u.label.count 0) (to (spots.Label labels.Becomes) (labelled (returning x u.label) u)) (to (spots.Label labels.Comma) (labelled (taking x u.label) u)) p))
+    (either_way (eqb u.label.count 0) (at (labelled (returning x u.label) u) p) (at (labelled (taking x u.label) u) p))
 
 pub pattern_loose : (x : Slot) (u : Cursor) (p : State) → tight_at (at (filled x u) p).cursor.spot ≡ false
 pattern_loose x u p =
     subst (λ (q : State). tight_at q.cursor.spot ≡ false)
-    (sym (at_cond (eqb u.count 0) (to (spots.Label labels.Becomes) (counted 1 (labelled (returning x u.label) u))) (to (spots.Label labels.Comma) (counted (one_more u.count) (labelled (taking u.count x u.label) u))) p))
-    (either_loose (eqb u.count 0) (at (counted 1 (labelled (returning x u.label) u)) p) (at (counted (one_more u.count) (labelled (taking u.count x u.label) u)) p))
+    (sym (at_cond (eqb u.label.count 0) (to (spots.Label labels.Becomes) (labelled (returning x u.label) u)) (to (spots.Label labels.Comma) (labelled (taking x u.label) u)) p))
+    (either_loose (eqb u.label.count 0) (at (labelled (returning x u.label) u) p) (at (labelled (taking x u.label) u) p))
 
 returned : (p : State) → Living (turned (spots.Inner inners.Returned) p)
 returned p =
@@ -294,37 +290,37 @@ param p =
     by_placed (turned (spots.Inner inners.Param) p) (λ k. at (filled (record { pattern = patterns.Any; place = k }) (to (spots.Inner inners.Param) p.cursor)) p) 42
     refl refl refl refl (λ _. refl) (λ k. after_pattern (record { pattern = patterns.Any; place = k }) (to (spots.Inner inners.Param) p.cursor) p)
 
-negated : (p : State) → Living (turned (spots.Inner inners.Negated) p)
-negated p =
-    let q = moved (turned (spots.Inner inners.Negated) p) (97 ∷ []) 97 0 in
-    let x : Slot = record { pattern = patterns.Differs (register_of p.sofar (variable_key (97 ∷ []))); place = p.cursor.label.place } in
-    by_word (turned (spots.Inner inners.Negated) p) q refl (pattern_loose x (to (spots.Inner inners.Negated) p.cursor) q) refl (λ _. refl)
-    (after_pattern x (to (spots.Inner inners.Negated) p.cursor) q)
+negated : (n : ℕ) (p : State) → Living (turned (spots.Inner (inners.Negated n)) p)
+negated n p =
+    let q = moved (turned (spots.Inner (inners.Negated n)) p) (97 ∷ []) 97 0 in
+    let x : Slot = record { pattern = patterns.Differs (register_of p.sofar (variable_key (97 ∷ []))); place = n } in
+    by_word (turned (spots.Inner (inners.Negated n)) p) q refl (pattern_loose x (to (spots.Inner (inners.Negated n)) p.cursor) q) refl (λ _. refl)
+    (after_pattern x (to (spots.Inner (inners.Negated n)) p.cursor) q)
 
 unquote : (p : State) → Living (turned (spots.Inner inners.Unquote) p)
 unquote p =
-    by_mark (turned (spots.Inner inners.Unquote) p) (turned (spots.Label (cond (eqb p.cursor.count 1) labels.Becomes labels.Comma)) p) 62 refl refl refl refl (λ _. refl)
-    (which (eqb p.cursor.count 1))
+    by_mark (turned (spots.Inner inners.Unquote) p) (turned (spots.Label (cond (eqb p.cursor.label.count 1) labels.Becomes labels.Comma)) p) 62 refl refl refl refl (λ _. refl)
+    (which (eqb p.cursor.label.count 1))
   where
     which : (b : Bool) → Living (turned (spots.Label (cond b labels.Becomes labels.Comma)) p)
     which true = becomes p
     which false = comma p
 
-quoted : (p : State) → Living (turned (spots.Inner inners.Quoted) p)
-quoted p =
-    let q = moved (turned (spots.Inner inners.Quoted) p) (97 ∷ []) 97 0 in
-    by_word (turned (spots.Inner inners.Quoted) p) q refl refl refl (λ _. refl) (unquote q)
+quoted : (n : ℕ) (p : State) → Living (turned (spots.Inner (inners.Quoted n)) p)
+quoted n p =
+    let q = moved (turned (spots.Inner (inners.Quoted n)) p) (97 ∷ []) 97 0 in
+    by_word (turned (spots.Inner (inners.Quoted n)) p) q refl refl refl (λ _. refl) (unquote q)
 
 pub lives_at : (s : Spot) (p : State) → Living (turned s p)
 lives_at (spots.Head heads.Margin) p = margin p
-lives_at (spots.Head heads.Keyword) p = keyword 7 p (omega arith)
+lives_at (spots.Head (heads.Keyword n)) p = keyword 7 n p (omega arith)
 lives_at (spots.Head heads.Gap) p = gap p
 lives_at (spots.Head heads.Title) p = title p
 lives_at (spots.Line lines.Ending) p = ending p
 lives_at (spots.Line lines.Fresh) p = fresh p
 lives_at (spots.Line lines.MethodName) p = method_name p
 lives_at (spots.Line lines.MethodNumber) p = method_number p
-lives_at (spots.Line lines.MethodArity) p = arity p
+lives_at (spots.Line (lines.MethodArity n)) p = arity n p
 lives_at (spots.Route routes.Minus) p = minus p
 lives_at (spots.Route routes.Greater) p = greater p
 lives_at (spots.Route routes.Target) p = target p
@@ -340,6 +336,6 @@ lives_at (spots.Label labels.End) p = label_end p
 lives_at (spots.Inner inners.Returned) p = returned p
 lives_at (spots.Inner inners.First) p = first p
 lives_at (spots.Inner inners.Param) p = param p
-lives_at (spots.Inner inners.Negated) p = negated p
-lives_at (spots.Inner inners.Quoted) p = quoted p
+lives_at (spots.Inner (inners.Negated n)) p = negated n p
+lives_at (spots.Inner (inners.Quoted n)) p = quoted n p
 lives_at (spots.Inner inners.Unquote) p = unquote p

@@ -2,7 +2,7 @@
 use Rattle.std.proofs.Common.{◌≡◌, ℕ, ◌+◌, ◌-◌, ◌<◌, ◌≤◌, Bool, true, false, ◌&&◌, eqb, ltb, List, [], ◌∷◌, length, get_or, take, drop, sym, refl, ap, ◌∙◌, subst, inl, inr, arith}
 use Rattle.std.proofs.lemmas.Bool.{cases_lt}
 use Rattle.std.proofs.lemmas.Bool.Decides.{nat_tests}
-use Rattle.forms.specs.Bytes.{space, digit, letter, wordy, Every, Word, Decimal}
+use Rattle.forms.specs.Bytes.{space, digit, letter, wordy, Word, Decimal}
 use Rattle.forms.specs.Pieces.{word, number, mark, head_of}
 use Rattle.forms.proofs.Laws.{apart}
 use Rattle.forms.proofs.Lexing.{letter_wordy}
@@ -13,17 +13,6 @@ use Rattle.property.proofs.Texts.{split, every_slice, slice_cons, stops_drop}
 
 pub none_slice : (t : List ℕ) (a : ℕ) → slice t a a ≡ []
 none_slice t a = let z : a - a ≡ 0 = omega arith in ap (λ (n : ℕ). take n (drop a t)) z
-
-pub gap_tight : (t : List ℕ) (a : ℕ) → a ≤ length t → Gapped true t a a
-gap_tight t a h =
-    let l : a ≤ a = omega arith in
-    record {
-      low = l;
-      high = h;
-      spaces = subst (Every space) (sym (none_slice t a)) tt;
-      none = λ _. none_slice t a;
-      plain = λ e. apart true refl e;
-    }
 
 pub gap_loose : (t : List ℕ) (a f : ℕ) → Passed space t a f → Gapped false t a f
 gap_loose t a f x = record { low = x.low; high = x.high; spaces = every_slice space t a f x; none = λ e. apart false e refl; plain = λ _ h. x.stops h }
@@ -95,9 +84,3 @@ not_padded b f q h e z = grind (arith, nat_tests)
 
 pub wordless : (b : ℕ) → letter b ≡ false → digit b ≡ false → wordy b ≡ false
 wordless b h k = grind (arith, nat_tests)
-
-pub padded_zero : (b f q : ℕ) → eqb b 48 && ltb 1 (q - f) ≡ true → (b ≡ 48) × (f + 1 < q)
-padded_zero b f q h =
-    let x : b ≡ 48 = grind (arith, nat_tests) in
-    let y : f + 1 < q = grind (arith, nat_tests) in
-    (x, y)

@@ -10,7 +10,7 @@ use Rattle.property.specs.declared.spot.Spot.{Spot}
 use Rattle.property.specs.declared.spot.Spot.TheVariants as spots
 use Rattle.property.specs.declared.table.Event.{Event}
 use Rattle.property.specs.declared.table.Event.TheVariants as events
-use Rattle.property.specs.declared.table.Pattern.TheVariants as patterns
+use Rattle.topl.specs.declared.pattern.Pattern.TheVariants as patterns
 use Rattle.property.specs.declared.table.Slot.{Slot}
 use Rattle.property.specs.declared.table.Statement.{Statement}
 
@@ -18,10 +18,10 @@ use Rattle.property.specs.declared.table.Statement.{Statement}
 abbrev pub blank : Slot
 blank = record { pattern = patterns.Any; place = 0 }
 
--- A label that begins, of a kind, at a place.
+-- A label that begins, of a kind, with n patterns.
 abbrev pub opened : Kind → ℕ → Partial
-opened d k =
-    record { kind = d; number = 0; arity = 0; place = k; returned = blank; slots = replicate 5 blank; written = replicate 8 false }
+opened d n =
+    record { kind = d; number = 0; arity = 0; count = n; returned = blank; slots = replicate 5 blank; written = replicate 8 false }
 
 -- A statement that begins, from a state.
 abbrev pub sourced : ℕ → Statement
@@ -30,76 +30,61 @@ sourced n = record { source = n; target = 0; events = replicate 4 events.Any; sp
 -- Before the text.
 abbrev pub origin : Cursor
 origin =
-    record { spot = spots.Head heads.Margin; count = 0; number = 0; label = opened kinds.Call 0; statement = sourced 0; starts = false; errs = false }
+    record { spot = spots.Head heads.Margin; label = opened kinds.Call 1; statement = sourced 0; starts = false; errs = false }
 
 -- Moving on to a spot.
 abbrev pub to : Spot → Cursor → Cursor
 to s c =
-    record { spot = s; count = c.count; number = c.number; label = c.label; statement = c.statement; starts = c.starts; errs = c.errs }
-
--- Counting up to n.
-abbrev pub counted : ℕ → Cursor → Cursor
-counted n c =
-    record { spot = c.spot; count = n; number = c.number; label = c.label; statement = c.statement; starts = c.starts; errs = c.errs }
-
--- Keeping the number of a method line.
-abbrev pub numbered : ℕ → Cursor → Cursor
-numbered n c =
-    record { spot = c.spot; count = c.count; number = n; label = c.label; statement = c.statement; starts = c.starts; errs = c.errs }
+    record { spot = s; label = c.label; statement = c.statement; starts = c.starts; errs = c.errs }
 
 -- Going on with a label.
 abbrev pub labelled : Partial → Cursor → Cursor
 labelled l c =
-    record { spot = c.spot; count = c.count; number = c.number; label = l; statement = c.statement; starts = c.starts; errs = c.errs }
+    record { spot = c.spot; label = l; statement = c.statement; starts = c.starts; errs = c.errs }
 
 -- Going on with a statement.
 abbrev pub stated : Statement → Cursor → Cursor
 stated s c =
-    record { spot = c.spot; count = c.count; number = c.number; label = c.label; statement = s; starts = c.starts; errs = c.errs }
+    record { spot = c.spot; label = c.label; statement = s; starts = c.starts; errs = c.errs }
 
 -- Whether `start` and `error` have been written by now.
 abbrev pub seen : Bool → Bool → Cursor → Cursor
 seen a b c =
-    record { spot = c.spot; count = c.count; number = c.number; label = c.label; statement = c.statement; starts = a; errs = b }
-
--- A label with the place where a pattern of it begins.
-abbrev pub placed : ℕ → Partial → Partial
-placed k l =
-    record { kind = l.kind; number = l.number; arity = l.arity; place = k; returned = l.returned; slots = l.slots; written = l.written }
+    record { spot = c.spot; label = c.label; statement = c.statement; starts = a; errs = b }
 
 -- A label with its method.
 abbrev pub naming : ℕ → ℕ → Partial → Partial
 naming n a l =
-    record { kind = l.kind; number = n; arity = a; place = l.place; returned = l.returned; slots = l.slots; written = l.written }
-
--- A label with its returned pattern, and with its k-th parameter, of which five count.
-abbrev pub returning : Slot → Partial → Partial
-returning x l =
-    record { kind = l.kind; number = l.number; arity = l.arity; place = l.place; returned = x; slots = l.slots; written = l.written }
-
-abbrev pub taking : ℕ → Slot → Partial → Partial
-taking k x l =
-    cond (nat_le k 5)
-    (record { kind = l.kind; number = l.number; arity = l.arity; place = l.place; returned = l.returned; slots = slice_set l.slots (k - 1) x; written = l.written })
-    l
-
--- A label that writes a register.
-abbrev pub writing : ℕ → Partial → Partial
-writing r l =
-    cond (nat_lt r 8)
-    (record { kind = l.kind; number = l.number; arity = l.arity; place = l.place; returned = l.returned; slots = l.slots; written = slice_set l.written r true })
-    l
+    record { kind = l.kind; number = n; arity = a; count = l.count; returned = l.returned; slots = l.slots; written = l.written }
 
 -- Counting one more, up to seven: no method has so many patterns.
 abbrev pub one_more : ℕ → ℕ
 one_more n = cond (nat_lt n 7) (n + 1) n
 
+-- The parameters with the k-th, of which five count.
+abbrev pub parameters : ℕ → Slot → List Slot → List Slot
+parameters k x ss = cond (nat_le k 5) (slice_set ss (k - 1) x) ss
+
+-- A label with its returned pattern, and with its next parameter.
+abbrev pub returning : Slot → Partial → Partial
+returning x l =
+    record { kind = l.kind; number = l.number; arity = l.arity; count = 1; returned = x; slots = l.slots; written = l.written }
+
+abbrev pub taking : Slot → Partial → Partial
+taking x l =
+    record { kind = l.kind; number = l.number; arity = l.arity; count = one_more l.count; returned = l.returned; slots = parameters l.count x l.slots; written = l.written }
+
+-- A label that writes a register.
+abbrev pub writing : ℕ → Partial → Partial
+writing r l =
+    cond (nat_lt r 8)
+    (record { kind = l.kind; number = l.number; arity = l.arity; count = l.count; returned = l.returned; slots = l.slots; written = slice_set l.written r true })
+    l
+
 -- The next pattern of a label: the returned one first, then the parameters.
 abbrev pub filled : Slot → Cursor → Cursor
 filled x c =
-    cond (c.count == 0)
-    (to (spots.Label labels.Becomes) (counted 1 (labelled (returning x c.label) c)))
-    (to (spots.Label labels.Comma) (counted (one_more c.count) (labelled (taking c.count x c.label) c)))
+    cond (c.label.count == 0) (to (spots.Label labels.Becomes) (labelled (returning x c.label) c)) (to (spots.Label labels.Comma) (labelled (taking x c.label) c))
 
 -- One more event of the statement, of which four count.
 abbrev pub met : Event → Cursor → Cursor

@@ -1,5 +1,5 @@
 -- The grammar of a property text: what may come at each spot, and the faults of what stands there.
-use Rattle.std.specs.Prelude.{◌≡◌, ℕ, ◌+◌, Bool, true, false, cond, not, ◌&&◌, ◌||◌, ◌⊎◌, List, [], ◌∷◌, length, Some, None, codes, Option, ◌==◌, nat_eq, nat_le, nat_lt, slice_index_or}
+use Rattle.std.specs.Prelude.{◌≡◌, ℕ, ◌+◌, Bool, true, false, cond, not, ◌&&◌, ◌||◌, ◌⊎◌, List, [], ◌∷◌, ◌++◌, length, Some, None, codes, Option, ◌==◌, nat_eq, nat_le, nat_lt, slice_index_or}
 use Rattle.std.specs.List.{list_any}
 use Rattle.forms.specs.Bytes.{space, digit, capital, small, letter, wordy, value}
 use Rattle.forms.specs.Forms.{Form, bounded}
@@ -23,19 +23,19 @@ use Rattle.property.specs.declared.spot.Spot.{Spot}
 use Rattle.property.specs.declared.spot.Spot.TheVariants as spots
 
 -- WHICH BYTES MAY COME, first byte by first byte.
--- In the keyword of the first line, of which n letters have been read.
-abbrev pub head_opens : Head → ℕ → ℕ → Bool
-head_opens heads.Margin n c = c == 32 || c == 112
-head_opens heads.Keyword n c = c == slice_index_or (codes "property") n 121
-head_opens heads.Gap n c = c == 32
-head_opens heads.Title n c = letter c
+-- In the keyword of the first line n letters have been read.
+abbrev pub head_opens : Head → ℕ → Bool
+head_opens heads.Margin c = c == 32 || c == 112
+head_opens (heads.Keyword n) c = c == slice_index_or (codes "property") n 121
+head_opens heads.Gap c = c == 32
+head_opens heads.Title c = letter c
 
 abbrev pub line_opens : Line → ℕ → Bool
 line_opens lines.Ending c = c == 10
 line_opens lines.Fresh c = letter c
 line_opens lines.MethodName c = letter c
 line_opens lines.MethodNumber c = digit c
-line_opens lines.MethodArity c = digit c
+line_opens (lines.MethodArity n) c = digit c
 
 abbrev pub route_opens : Route → ℕ → Bool
 route_opens routes.Minus c = c == 45
@@ -61,24 +61,24 @@ abbrev pub inner_opens : Inner → ℕ → Bool
 inner_opens inners.Returned c = pattern_opens c
 inner_opens inners.First c = c == 41 || pattern_opens c
 inner_opens inners.Param c = pattern_opens c
-inner_opens inners.Negated c = small c
-inner_opens inners.Quoted c = letter c
+inner_opens (inners.Negated n) c = small c
+inner_opens (inners.Quoted n) c = letter c
 inner_opens inners.Unquote c = c == 62
 
-abbrev pub opens_at : Spot → ℕ → ℕ → Bool
-opens_at (spots.Head h) n c = head_opens h n c
-opens_at (spots.Line l) n c = line_opens l c
-opens_at (spots.Route r) n c = route_opens r c
-opens_at (spots.Label l) n c = label_opens l c
-opens_at (spots.Inner i) n c = inner_opens i c
+abbrev pub opens_at : Spot → ℕ → Bool
+opens_at (spots.Head h) c = head_opens h c
+opens_at (spots.Line l) c = line_opens l c
+opens_at (spots.Route r) c = route_opens r c
+opens_at (spots.Label l) c = label_opens l c
+opens_at (spots.Inner i) c = inner_opens i c
 
 abbrev pub opens : Cursor → ℕ → Bool
-opens u c = opens_at u.spot u.count c
+opens u c = opens_at u.spot c
 
 -- No spaces are free before and in the keyword, right after it, and inside `->` and `:=`.
 abbrev pub tight_at : Spot → Bool
 tight_at (spots.Head heads.Margin) = true
-tight_at (spots.Head heads.Keyword) = true
+tight_at (spots.Head (heads.Keyword n)) = true
 tight_at (spots.Head heads.Gap) = true
 tight_at (spots.Head heads.Title) = false
 tight_at (spots.Line l) = false
@@ -101,29 +101,39 @@ tight_at (spots.Inner i) = false
 abbrev pub name_flaws : List ℕ → List (Bool × ℕ)
 name_flaws w = (reserved w, 10) ∷ (long w, 11) ∷ []
 
+-- Those of a name that needs room; b says that there is none.
+abbrev pub room_flaws : Bool → List ℕ → List (Bool × ℕ)
+room_flaws b w = (reserved w, 10) ∷ (long w || b, 11) ∷ []
+
 -- Those of an arity.
 abbrev pub arity_flaws : List ℕ → List (Bool × ℕ)
 arity_flaws w = (nat_lt 5 (value w), 11) ∷ []
 
 abbrev pub head_flaws : Head → List ℕ → List (Bool × ℕ)
 head_flaws heads.Margin w = []
-head_flaws heads.Keyword w = []
+head_flaws (heads.Keyword n) w = []
 head_flaws heads.Gap w = []
 head_flaws heads.Title w = name_flaws w
 
+-- There is no room for a statement that leaves the state w.
+abbrev pub full : State → List ℕ → Bool
+full p w = nat_le 64 (length p.sofar.statements) || crowded p w
+
+-- Those of a statement's source.
+abbrev pub source_flaws : State → List ℕ → List (Bool × ℕ)
+source_flaws p w = room_flaws (full p w) w ++ (same w (codes "error"), 16) ∷ []
+
 abbrev pub line_flaws : Line → State → List ℕ → List (Bool × ℕ)
 line_flaws lines.Ending p w = []
-line_flaws lines.Fresh p w =
-    cond (declares p w) ((nat_le 32 (length p.sofar.methods), 11) ∷ [])
-    ((reserved w, 10) ∷ (long w || (nat_le 64 (length p.sofar.statements) || crowded p w), 11) ∷ (same w (codes "error"), 16) ∷ [])
+line_flaws lines.Fresh p w = cond (declares p w) ((nat_le 32 (length p.sofar.methods), 11) ∷ []) (source_flaws p w)
 line_flaws lines.MethodName p w = (reserved w, 10) ∷ (long w, 11) ∷ (nat_lt (method_place p.sofar w) (length p.sofar.methods), 12) ∷ []
 line_flaws lines.MethodNumber p w = (nat_lt 65535 (value w), 11) ∷ (list_any (λ m. nat_eq (value w) m.number) p.sofar.methods, 12) ∷ []
-line_flaws lines.MethodArity p w = arity_flaws w
+line_flaws (lines.MethodArity n) p w = arity_flaws w
 
 abbrev pub route_flaws : Route → State → List ℕ → List (Bool × ℕ)
 route_flaws routes.Minus p w = []
 route_flaws routes.Greater p w = []
-route_flaws routes.Target p w = (reserved w, 10) ∷ (long w || crowded p w, 11) ∷ []
+route_flaws routes.Target p w = room_flaws (crowded p w) w
 route_flaws routes.Colon p w = []
 
 -- After `!` or `<`, with r to come, a good name stands that needs a ninth register.
@@ -137,12 +147,14 @@ wants P constant r = wants_word P constant (front wordy (past space r))
 
 -- Those of a variable that begins a label, and of any other; `late` says that its label goes past the fourth event.
 abbrev pub fresh_flaws : Bool → State → List ℕ → List (Bool × ℕ)
-fresh_flaws late p w = (reserved w, 10) ∷ (long w || (late || ninth p.sofar (variable_key w)), 11) ∷ []
+fresh_flaws late p w = room_flaws (late || ninth p.sofar (variable_key w)) w
+
+-- The label would write the variable w, which begins with c, again.
+abbrev pub written_twice : State → List ℕ → ℕ → Bool
+written_twice p w c = capital c && wrote p.cursor.label.written (register_of p.sofar (variable_key w))
 
 abbrev pub variable_flaws : Bool → State → List ℕ → ℕ → List (Bool × ℕ)
-variable_flaws late p w c =
-    (reserved w, 10) ∷ (long w || (late || ninth p.sofar (variable_key w)), 11)
-    ∷ (capital c && wrote p.cursor.label.written (register_of p.sofar (variable_key w)), 14) ∷ []
+variable_flaws late p w c = fresh_flaws late p w ++ (written_twice p w c, 14) ∷ []
 
 -- Those of a pattern.
 abbrev pub pattern_flaws : Bool → State → List ℕ → ℕ → List ℕ → List (Bool × ℕ)
@@ -157,7 +169,7 @@ begun_flaws late p w c r = cond (letter c) (fresh_flaws late p w) (pattern_flaws
 
 -- A closing bracket after another count of patterns than the method has parameters.
 abbrev pub closing_flaws : Cursor → List (Bool × ℕ)
-closing_flaws u = (not (u.count == u.label.arity + 1), 13) ∷ []
+closing_flaws u = (not (u.label.count == u.label.arity + 1), 13) ∷ []
 
 abbrev pub label_flaws : Label → State → List ℕ → ℕ → List ℕ → List (Bool × ℕ)
 label_flaws labels.Begin p w c r =
@@ -176,8 +188,8 @@ abbrev pub inner_flaws : Inner → State → List ℕ → ℕ → List ℕ → L
 inner_flaws inners.Returned p w c r = pattern_flaws false p w c r
 inner_flaws inners.First p w c r = cond (c == 41) (closing_flaws p.cursor) (pattern_flaws false p w c r)
 inner_flaws inners.Param p w c r = pattern_flaws false p w c r
-inner_flaws inners.Negated p w c r = name_flaws w
-inner_flaws inners.Quoted p w c r = name_flaws w
+inner_flaws (inners.Negated n) p w c r = name_flaws w
+inner_flaws (inners.Quoted n) p w c r = name_flaws w
 inner_flaws inners.Unquote p w c r = []
 
 abbrev pub flaws_at : Spot → State → List ℕ → ℕ → List ℕ → List (Bool × ℕ)
@@ -210,7 +222,7 @@ line_ends lines.Ending s = true
 line_ends lines.Fresh s = none_left s
 line_ends lines.MethodName s = false
 line_ends lines.MethodNumber s = false
-line_ends lines.MethodArity s = false
+line_ends (lines.MethodArity n) s = false
 
 abbrev pub label_ends : Label → Bool
 label_ends labels.Begin = false

@@ -12,9 +12,9 @@ visit w p = record { cursor = visiting w p.cursor; word = p.word; sofar = with_v
 abbrev pub hold : Key → State → State
 hold k p = record { cursor = p.cursor; word = p.word; sofar = holding k p.sofar }
 
--- The method of a line is declared, with an arity.
-abbrev pub declare : ℕ → State → State
-declare a p = record { cursor = p.cursor; word = p.word; sofar = with_method (record { name = p.word; number = p.cursor.number; arity = a }) p.sofar }
+-- The method of a line is declared, with a number and an arity.
+abbrev pub declare : ℕ → ℕ → State → State
+declare n a p = record { cursor = p.cursor; word = p.word; sofar = with_method (record { name = p.word; number = n; arity = a }) p.sofar }
 
 -- The number and the arity of a method, 0 where there is none.
 abbrev pub number_of : Option Method → ℕ

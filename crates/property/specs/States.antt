@@ -2,7 +2,7 @@
 use Rattle.std.specs.Prelude.{ℕ, ◌+◌, Bool, true, false, cond, not, ◌&&◌, ◌||◌, List, [], ◌∷◌, ◌++◌, length, codes, ◌==◌, nat_eq, nat_le, nat_lt, slice_index_or}
 use Rattle.std.specs.List.{list_any, position_or_len}
 use Rattle.forms.specs.Bytes.{capital, value}
-use Rattle.property.specs.Cursors.{opened, sourced, targeted, one_if, origin, to, counted, numbered, labelled, stated, seen, placed, naming, writing, filled, met, finished}
+use Rattle.property.specs.Cursors.{opened, sourced, targeted, one_if, origin, to, labelled, stated, seen, naming, writing, filled, met, finished}
 use Rattle.property.specs.Words.{same, lowered, first_byte}
 use Rattle.property.specs.declared.cursor.Cursor.{Cursor}
 use Rattle.property.specs.declared.spot.Head.{Head}
@@ -20,8 +20,8 @@ use Rattle.property.specs.declared.spot.Route.TheVariants as routes
 use Rattle.property.specs.declared.spot.Spot.{Spot}
 use Rattle.property.specs.declared.spot.Spot.TheVariants as spots
 use Rattle.property.specs.declared.table.Event.TheVariants as events
-use Rattle.property.specs.declared.table.Pattern.{Pattern}
-use Rattle.property.specs.declared.table.Pattern.TheVariants as patterns
+use Rattle.topl.specs.declared.pattern.Pattern.{Pattern}
+use Rattle.topl.specs.declared.pattern.Pattern.TheVariants as patterns
 use Rattle.property.specs.declared.table.Statement.{Statement}
 
 -- A declared method.
@@ -152,7 +152,7 @@ method_of P w = method_in P.methods w
 
 -- PATTERNS
 -- A pattern of a register is read, which began at place k.
-abbrev pub patterned : Key → (ℕ → Pattern) → ℕ → State → State
+abbrev pub patterned : Key → (ℕ → Pattern ℕ) → ℕ → State → State
 patterned key f k p =
     record { cursor = filled (record { pattern = f (register_of p.sofar key); place = k }) p.cursor; word = p.word; sofar = holding key p.sofar }
 
@@ -167,12 +167,12 @@ variable w k p =
 abbrev pub begins : List ℕ → ℕ → ℕ → State → State
 begins w c k p =
     cond (c == 42) (at (filled (record { pattern = patterns.Any; place = k }) p.cursor) p)
-    (cond (c == 33) (at (to (spots.Inner inners.Negated) (labelled (placed k p.cursor.label) p.cursor)) p)
-    (cond (c == 60) (at (to (spots.Inner inners.Quoted) (labelled (placed k p.cursor.label) p.cursor)) p) (variable w k p)))
+    (cond (c == 33) (turned (spots.Inner (inners.Negated k)) p)
+    (cond (c == 60) (turned (spots.Inner (inners.Quoted k)) p) (variable w k p)))
 
 -- A label that stands for the call and the return begins, with its returned pattern.
 abbrev pub whole_begins : List ℕ → ℕ → ℕ → State → State
-whole_begins w c k p = begins w c k (at (counted 0 (labelled (opened kinds.Both k) p.cursor)) p)
+whole_begins w c k p = begins w c k (at (labelled (opened kinds.Both 0) p.cursor) p)
 
 -- LINES
 -- A statement ends.
@@ -210,10 +210,10 @@ calling w p =
 
 -- Before the keyword of the first line, and in it.
 abbrev pub margin : ℕ → Cursor → Cursor
-margin c u = cond (c == 32) u (to (spots.Head heads.Keyword) (counted 1 u))
+margin c u = cond (c == 32) u (to (spots.Head (heads.Keyword 1)) u)
 
-abbrev pub keyword : Cursor → Cursor
-keyword u = cond (nat_lt u.count 7) (counted (u.count + 1) u) (to (spots.Head heads.Gap) u)
+abbrev pub after_letter : ℕ → Head
+after_letter n = cond (nat_lt n 7) (heads.Keyword (n + 1)) heads.Gap
 
 -- The number that digits write; all over 65,535 stand as one, since no text may have them.
 abbrev pub capped : List ℕ → ℕ
@@ -222,7 +222,7 @@ capped w = cond (nat_le (value w) 65535) (value w) 65536
 -- WHAT A PIECE DOES at each spot: w are its bytes, c is the first of them, k its place.
 abbrev pub head_moved : Head → State → List ℕ → ℕ → State
 head_moved heads.Margin p w c = at (margin c p.cursor) p
-head_moved heads.Keyword p w c = at (keyword p.cursor) p
+head_moved (heads.Keyword n) p w c = turned (spots.Head (after_letter n)) p
 head_moved heads.Gap p w c = turned (spots.Head heads.Title) p
 head_moved heads.Title p w c = record { cursor = to (spots.Line lines.Ending) p.cursor; word = p.word; sofar = named w p.sofar }
 
@@ -230,11 +230,11 @@ abbrev pub line_moved : Line → State → List ℕ → State
 line_moved lines.Ending p w = turned (spots.Line lines.Fresh) p
 line_moved lines.Fresh p w = cond (declares p w) (turned (spots.Line lines.MethodName) p) (leaving w p)
 line_moved lines.MethodName p w = record { cursor = to (spots.Line lines.MethodNumber) p.cursor; word = w; sofar = p.sofar }
-line_moved lines.MethodNumber p w = at (to (spots.Line lines.MethodArity) (numbered (capped w) p.cursor)) p
-line_moved lines.MethodArity p w = record {
+line_moved lines.MethodNumber p w = turned (spots.Line (lines.MethodArity (capped w))) p
+line_moved (lines.MethodArity n) p w = record {
   cursor = to (spots.Line lines.Ending) p.cursor;
   word = p.word;
-  sofar = with_method (record { name = p.word; number = p.cursor.number; arity = capped w }) p.sofar;
+  sofar = with_method (record { name = p.word; number = n; arity = capped w }) p.sofar;
 }
 
 abbrev pub route_moved : Route → State → List ℕ → State
@@ -246,11 +246,11 @@ route_moved routes.Colon p w = turned (spots.Label labels.Begin) p
 abbrev pub label_moved : Label → State → List ℕ → ℕ → ℕ → State
 label_moved labels.Begin p w c k =
     cond (c == 42) (turned (spots.Label labels.Star) p)
-    (cond (same w (codes "call")) (at (to (spots.Label labels.Callee) (counted 1 (labelled (opened kinds.Call k) p.cursor))) p)
-    (cond (same w (codes "ret")) (at (to (spots.Inner inners.Returned) (counted 0 (labelled (opened kinds.Return k) p.cursor))) p)
+    (cond (same w (codes "call")) (at (to (spots.Label labels.Callee) (labelled (opened kinds.Call 1) p.cursor)) p)
+    (cond (same w (codes "ret")) (at (to (spots.Inner inners.Returned) (labelled (opened kinds.Return 0) p.cursor)) p)
     (whole_begins w c k p)))
 label_moved labels.Star p w c k =
-    cond (c == 58) (at (to (spots.Label labels.Equals) (counted 1 (labelled (opened kinds.Both k) p.cursor))) p)
+    cond (c == 58) (at (to (spots.Label labels.Equals) (labelled (opened kinds.Both 1) p.cursor)) p)
     (cond (c == 59) (at (to (spots.Label labels.Begin) (met events.Any p.cursor)) p) (ends_statement (at (met events.Any p.cursor) p)))
 label_moved labels.Becomes p w c k = turned (spots.Label labels.Equals) p
 label_moved labels.Equals p w c k = turned (spots.Label labels.Callee) p
@@ -263,9 +263,9 @@ abbrev pub inner_moved : Inner → State → List ℕ → ℕ → ℕ → State
 inner_moved inners.Returned p w c k = begins w c k p
 inner_moved inners.First p w c k = cond (c == 41) (at (finished p.cursor) p) (begins w c k p)
 inner_moved inners.Param p w c k = begins w c k p
-inner_moved inners.Negated p w c k = patterned (variable_key w) patterns.Differs p.cursor.label.place p
-inner_moved inners.Quoted p w c k = turned (spots.Inner inners.Unquote) (patterned (constant_key w) patterns.Same p.cursor.label.place p)
-inner_moved inners.Unquote p w c k = turned (spots.Label (cond (p.cursor.count == 1) labels.Becomes labels.Comma)) p
+inner_moved (inners.Negated n) p w c k = patterned (variable_key w) patterns.Differs n p
+inner_moved (inners.Quoted n) p w c k = turned (spots.Inner inners.Unquote) (patterned (constant_key w) patterns.Same n p)
+inner_moved inners.Unquote p w c k = turned (spots.Label (cond (p.cursor.label.count == 1) labels.Becomes labels.Comma)) p
 
 abbrev pub moved_at : Spot → State → List ℕ → ℕ → ℕ → State
 moved_at (spots.Head h) p w c k = head_moved h p w c

@@ -5,6 +5,7 @@ use Rattle.kinds.specs.declared.text_reason.TextReason.{TextReason}
 use Rattle.property.specs.States.{Declared, Key, key, Property, State}
 use Rattle.property.specs.declared.draft.Draft.{Draft}
 use Rattle.property.specs.declared.draft.Reading.{Reading}
+use Rattle.property.specs.declared.reader.Found.{Found}
 use Rattle.property.specs.declared.table.Method.{Method}
 use Rattle.property.specs.declared.table.Name.{Name}
 use Rattle.property.specs.declared.table.Register.{Register}
@@ -54,3 +55,10 @@ view t d = record { cursor = d.cursor; word = spelled t d.word; sofar = sofar t 
 -- What a draft with its text holds.
 abbrev pub seen : Reading → State
 seen r = view r.text.now r.draft.now
+
+-- The bytes of a piece that was found, and those after it.
+abbrev pub piece : Reading → Found → List ℕ
+piece r x = spelled r.text.now x.name
+
+abbrev pub rest : Reading → Found → List ℕ
+rest r x = drop x.name.to r.text.now

@@ -1,55 +1,55 @@
 // Where a reader stands in a property text, with what it holds of the line that it reads.
 ghost use Rattle.std.specs.Prelude.{◌≡◌, ◌+◌};
-ghost use Rattle.property.specs.Cursors.{blank, opened, sourced, origin, filled, met, finished, targeted, writing, one_if, wrote};
+ghost use Rattle.property.specs.Cursors.{opened, sourced, origin, filled, met, finished, writing, one_if, wrote};
 
 use crate::spot::*;
 use crate::table::*;
 
-// The label that is being read: its kind, its method, where its pattern began, its patterns, and the registers that it writes.
-// Kept arrays: the label is public and `Copy`, which an ArrayVec is not.
+// The label that is being read: its kind, its method, how many patterns have been read, of which the returned one counts as the first also where there is none,
+// the patterns, and the registers that it writes.
 #[derive(Clone, Copy)]
 pub struct Partial {
     pub kind: Kind,
     pub number: u32,
     pub arity: usize,
-    pub place: usize,
+    pub count: usize,
     pub returned: Slot,
+    // Kept an array: the label is public and `Copy`, which an ArrayVec is not.
     pub slots: [Slot; 5],
+    // Kept flags: the label is public and `Copy`, which no set of std is, and a set would take heap for eight registers.
     pub written: [bool; 8],
 }
 
-// A place in the grammar: the spot, how many letters or patterns were counted there, the number of a method line, the label and the statement that are
-// being read, and whether `start` and `error` have been written.
-// Kept the count beside the spot: in the spot it would stand in six variants (Keyword, Param, Negated, Quoted, Unquote, Comma), each of which hands it on.
-// Kept two bools, `starts` and `errs`: each holds or not by itself and has no value beside it, so an enum would have a variant for each of the four cases.
+// A place in the grammar: the spot, the label and the statement that are being read, and whether `start` and `error` have been written.
 #[derive(Clone, Copy)]
 pub struct Cursor {
     pub spot: Spot,
-    pub count: usize,
-    pub number: u32,
     pub label: Partial,
     pub statement: Statement,
+    // Kept two bools: each holds or not by itself and has no value beside it, so an enum would have a variant for each of the four cases.
     pub starts: bool,
     pub errs: bool,
 }
 
 // A slot that nothing was written into.
-// Kept a filler, and 0 for a target that is not read yet: all who read a finished statement would have to ask an Option of each.
+// Kept a filler, for places of an array that do not count and for a returned pattern that is not read: whoever reads a finished call or return would have to
+// ask an Option of each pattern that is there.
 const BLANK: Slot = Slot {
     pattern: Pattern::Any,
     place: 0,
 };
 
 impl Partial {
-    // A label that begins, of a kind, at a place.
-    pub(crate) fn opened(kind: Kind, place: usize) -> Partial
-        ensures { result ≡ opened kind place }
+    // A label that begins, of a kind, with so many patterns.
+    pub(crate) fn opened(kind: Kind, count: usize) -> Partial
+        ensures { result ≡ opened kind count }
     {
         Partial {
             kind,
+            // Kept 0 for the number and the arity until the method is read: an Option would have to be something where the label ends, which its method always precedes.
             number: 0,
             arity: 0,
-            place,
+            count,
             returned: BLANK,
             slots: [BLANK; 5],
             written: [false; 8],
@@ -67,7 +67,7 @@ impl Partial {
     pub(crate) fn writing(mut self, register: usize) -> Partial
         ensures { result ≡ writing register self }
     {
-        // Kept an index: of `get_mut` the goals `returns-in-Some` and `returns-in_default` stay open.
+        // Kept an index: once a `get_mut` of an array is over, a proof knows none of its elements, so the goals `returns-in-Some` and `returns-in_default` stay open.
         if register < 8 {
             self.written[register] = true;
         }
@@ -82,6 +82,7 @@ impl Statement {
     {
         Statement {
             source,
+            // Kept 0 until the target is read: the finished property has statements of this type, and whoever reads one would have to ask an Option of it.
             target: 0,
             events: [Event::Any; 4],
             span: 0,
@@ -96,9 +97,7 @@ impl Cursor {
     {
         Cursor {
             spot: Spot::Head(Head::Margin),
-            count: 0,
-            number: 0,
-            label: Partial::opened(Kind::Call, 0),
+            label: Partial::opened(Kind::Call, 1),
             statement: Statement::sourced(0),
             starts: false,
             errs: false,
@@ -109,17 +108,17 @@ impl Cursor {
     pub(crate) fn filled(mut self, slot: Slot) -> Cursor
         ensures { result ≡ filled slot self }
     {
-        if self.count == 0 {
+        if self.label.count == 0 {
             self.label.returned = slot;
             self.spot = Spot::Label(Label::Becomes);
         } else {
-            if self.count <= 5 {
-                self.label.slots[self.count - 1] = slot;
+            if self.label.count <= 5 {
+                self.label.slots[self.label.count - 1] = slot;
             }
             self.spot = Spot::Label(Label::Comma);
         }
-        if self.count < 7 {
-            self.count += 1;
+        if self.label.count < 7 {
+            self.label.count += 1;
         }
         self
     }

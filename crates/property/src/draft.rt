@@ -11,13 +11,17 @@ ghost use Rattle.property.specs.Words as word;
 use crate::cursor::*;
 use crate::table::*;
 use crate::words::*;
+use topl::states::{ERROR, START};
 
 // The cursor, a name that waits for its use, and the property so far.
-// Kept apart from the text where it changes: a struct that lends it by `&mut` beside the text would have each move say that the text stays as it is.
+// Kept without the text that it is read from: in a struct of both, each function that changes the draft would also have to say that the text stays as it is.
 #[derive(Drop)]
 pub struct Draft {
     pub cursor: Cursor,
+    // Kept a name, empty where none waits: an Option would have to be something where the method is declared, which its name always precedes. In the spot the
+    // grammar could not spell it, since it shares the spots and has no text.
     pub word: Name,
+    // Kept a name, empty until it is read: an Option would be asked by whoever reads a finished draft, which always has its name.
     pub name: Name,
     pub methods: Vec<Method>,
     pub others: Vec<Name>,
@@ -88,15 +92,15 @@ impl Reading<'_> {
     }
 
     // The number of a state, which is the next one where it was not written yet, and 16 for all past the fifteenth.
-    // Kept a number for those past it: the definition state_number gives it, and an Option would be made 16 by its one caller.
+    // Kept 16 for those past it: the text has a fault there, and an Option would have to go on into each statement's source and target.
     pub(crate) fn state_number(&self, w: &[u8]) -> usize
         ensures { result ≡ state.state_number (seen self.now).sofar.others w.now }
     {
         if is_start(w) {
-            return START;
+            return usize::from(START);
         }
         if is_error(w) {
-            return ERROR;
+            return usize::from(ERROR);
         }
         2 + self.other(w).unwrap_or(self.draft.others.len()).min(14)
     }

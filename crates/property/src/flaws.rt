@@ -1,11 +1,10 @@
 // The faults of a piece where it stands.
-ghost use Rattle.std.specs.Prelude.{◌≡◌, ℕ, ◌+◌, ◌<◌, ◌≤◌, true, false, nat_le, List, [], length, drop, if◌then◌else◌, Some, None};
-ghost use Rattle.property.specs.Grammar.{name_flaws, arity_flaws, line_flaws, route_flaws, pattern_flaws, closing_flaws, label_flaws, inner_flaws, flaws, wants_word, worst, variable_flaws, begun_flaws, fresh_flaws};
+ghost use Rattle.std.specs.Prelude.{◌≡◌, ℕ, true, false, nat_le, List, [], if◌then◌else◌, Some, None};
+ghost use Rattle.property.specs.Grammar.{name_flaws, room_flaws, arity_flaws, full, source_flaws, line_flaws, route_flaws, pattern_flaws, closing_flaws, label_flaws, inner_flaws, flaws, wants_word, worst, written_twice, variable_flaws, begun_flaws, fresh_flaws};
 ghost use Rattle.kinds.specs.Refusals.{text_number};
-ghost use Rattle.property.specs.Cursors.{wrote};
 ghost use Rattle.property.specs.States as state;
 ghost use Rattle.property.specs.States.{State};
-ghost use Rattle.property.specs.Views.{told, seen, spelled as spelling, name_of, is_constant};
+ghost use Rattle.property.specs.Views.{told, seen, piece, rest, spelled as spelling, name_of, is_constant};
 
 use crate::draft::*;
 use crate::marks::*;
@@ -29,14 +28,21 @@ fn too_much(b: bool) -> Option<TextReason>
     fault(b, TextReason::TooMuch)
 }
 
-// The fault of a name.
-fn name_flaw(w: &[u8]) -> Option<TextReason>
-    ensures { told result ≡ worst (name_flaws w.now) }
+// The fault of a name that needs room, where a test says that there is none.
+fn room_flaw(w: &[u8], full: bool) -> Option<TextReason>
+    ensures { told result ≡ worst (room_flaws full w.now) }
 {
     if reserved(w) {
         return Some(TextReason::NoForm);
     }
-    too_much(w.len() > 12)
+    too_much(w.len() > 12 || full)
+}
+
+// The fault of a name.
+fn name_flaw(w: &[u8]) -> Option<TextReason>
+    ensures { told result ≡ worst (name_flaws w.now) }
+{
+    room_flaw(w, false)
 }
 
 // The fault of a method's arity.
@@ -46,7 +52,6 @@ fn arity_flaw(w: &[u8]) -> Option<TextReason>
     too_much(decimal(w).is_none_or(|n| n > 5))
 }
 
-// Tests that ask the draft stand before `or_else`: asked inside of its closure, the goals `returns` stay open.
 impl Reading<'_> {
     // Whether a state would be the seventeenth.
     fn crowded(&self, w: &[u8]) -> bool
@@ -62,8 +67,21 @@ impl Reading<'_> {
     fn state_flaw(&self, w: &[u8]) -> Option<TextReason>
         ensures { told result ≡ worst (route_flaws Route.Target (seen self.now) w.now) }
     {
-        let crowded = self.crowded(w);
-        name_flaw(w).or_else(|| too_much(crowded))
+        room_flaw(w, self.crowded(w))
+    }
+
+    // Whether there is no room for a statement that leaves a state.
+    fn full(&self, w: &[u8]) -> bool
+        ensures { result ≡ full (seen self.now) w.now }
+    {
+        self.draft.statements.len() >= 64 || self.crowded(w)
+    }
+
+    // The fault of a statement's source.
+    fn source_flaw(&self, w: &[u8]) -> Option<TextReason>
+        ensures { told result ≡ worst (source_flaws (seen self.now) w.now) }
+    {
+        room_flaw(w, self.full(w)).or(fault(is_error(w), TextReason::LeavesError))
     }
 
     // The fault of a line's first word.
@@ -73,26 +91,21 @@ impl Reading<'_> {
         if self.declares(w) {
             return too_much(self.draft.methods.len() >= 32);
         }
-        let full = self.draft.statements.len() >= 64 || self.crowded(w);
-        name_flaw(w)
-            .or_else(|| too_much(full))
-            .or_else(|| fault(is_error(w), TextReason::LeavesError))
+        self.source_flaw(w)
     }
 
     // The fault of the name of a method that a line declares.
     fn method_flaw(&self, w: &[u8]) -> Option<TextReason>
         ensures { told result ≡ worst (line_flaws Line.MethodName (seen self.now) w.now) }
     {
-        let known = self.knows(w);
-        name_flaw(w).or_else(|| fault(known, TextReason::BadMethod))
+        name_flaw(w).or(fault(self.knows(w), TextReason::BadMethod))
     }
 
     // The fault of the name of a method that a label calls.
     fn callee_flaw(&self, w: &[u8]) -> Option<TextReason>
         ensures { told result ≡ worst (label_flaws Label.Callee (seen self.now) w.now 0 []) }
     {
-        let known = self.knows(w);
-        name_flaw(w).or_else(|| fault(!known, TextReason::BadMethod))
+        name_flaw(w).or(fault(!self.knows(w), TextReason::BadMethod))
     }
 
     // The fault of a method's number.
@@ -100,7 +113,7 @@ impl Reading<'_> {
         ensures { told result ≡ worst (line_flaws Line.MethodNumber (seen self.now) w.now) }
     {
         match decimal(w) {
-            Some(n) => fault(self.draft.numbered(n), TextReason::BadMethod),
+            Some(n) => fault(self.draft.numbered(u32::from(n)), TextReason::BadMethod),
             None => Some(TextReason::TooMuch),
         }
     }
@@ -109,11 +122,9 @@ impl Reading<'_> {
     fn closing_flaw(&self) -> Option<TextReason>
         ensures { told result ≡ worst (closing_flaws self.now.draft.now.cursor) }
     {
-        let params = self.draft.cursor.count.checked_sub(1);
-        fault(
-            params != Some(self.draft.cursor.label.arity),
-            TextReason::OtherArity,
-        )
+        let label = self.draft.cursor.label;
+        let params = label.count.checked_sub(1);
+        fault(params != Some(label.arity), TextReason::OtherArity)
     }
 
     // Whether a constant or a variable that may stand after `!` or `<` needs a ninth register.
@@ -124,19 +135,17 @@ impl Reading<'_> {
         register.well_begun(self.text) && !reserved(w) && w.len() <= 12 && self.ninth(register)
     }
 
-    // Whether the label writes a variable already.
-    fn twice(&self, name: Name) -> bool
-        ensures { result ≡ wrote self.now.draft.now.cursor.label.written (state.register_of (seen self.now).sofar (state.variable_key (spelling self.now.text.now name))) }
+    // Whether the label would write a variable again.
+    fn twice(&self, found: Found) -> bool
+        ensures { result ≡ written_twice (seen self.now) (piece self.now found) found.byte }
     {
-        self.draft
-            .cursor
-            .label
-            .writes(self.register_number(Register::Variable(name)))
+        let register = self.register_number(Register::Variable(found.name));
+        found.byte.is_ascii_uppercase() && self.draft.cursor.label.writes(register)
     }
 
     // The fault of a pattern.
     fn pattern_flaw(&self, found: Found) -> Option<TextReason>
-        ensures { told result ≡ worst (pattern_flaws false (seen self.now) (spelling self.now.text.now found.name) found.byte (drop found.name.to self.now.text.now)) }
+        ensures { told result ≡ worst (pattern_flaws false (seen self.now) (piece self.now found) found.byte (rest self.now found)) }
     {
         match found.byte {
             b'*' => None,
@@ -154,11 +163,10 @@ impl Reading<'_> {
 
     // The fault of a variable.
     fn variable_flaw(&self, found: Found) -> Option<TextReason>
-        ensures { told result ≡ worst (variable_flaws false (seen self.now) (spelling self.now.text.now found.name) found.byte) }
+        ensures { told result ≡ worst (variable_flaws false (seen self.now) (piece self.now found) found.byte) }
     {
-        let twice = found.byte.is_ascii_uppercase() && self.twice(found.name);
         self.fresh_variable_flaw(found.name)
-            .or_else(|| fault(twice, TextReason::WrittenTwice))
+            .or(fault(self.twice(found), TextReason::WrittenTwice))
     }
 
     // The fault of a variable that begins a label: nothing is written by then.
@@ -166,12 +174,12 @@ impl Reading<'_> {
         ensures { told result ≡ worst (fresh_flaws false (seen self.now) (spelling self.now.text.now name)) }
     {
         let ninth = self.ninth(Register::Variable(name));
-        name_flaw(spelled(self.text, name)).or_else(|| too_much(ninth))
+        room_flaw(spelled(self.text, name), ninth)
     }
 
     // The fault of what begins a label.
     fn begin_flaw(&self, found: Found) -> Option<TextReason>
-        ensures { told result ≡ worst (label_flaws Label.Begin (seen self.now) (spelling self.now.text.now found.name) found.byte (drop found.name.to self.now.text.now)) }
+        ensures { told result ≡ worst (label_flaws Label.Begin (seen self.now) (piece self.now found) found.byte (rest self.now found)) }
     {
         let span = self.draft.cursor.statement.span;
         let w = spelled(self.text, found.name);
@@ -186,7 +194,7 @@ impl Reading<'_> {
 
     // The fault of a pattern that begins a label.
     fn begun_flaw(&self, found: Found) -> Option<TextReason>
-        ensures { told result ≡ worst (begun_flaws (nat_le 3 self.now.draft.now.cursor.statement.span) (seen self.now) (spelling self.now.text.now found.name) found.byte (drop found.name.to self.now.text.now)) }
+        ensures { told result ≡ worst (begun_flaws (nat_le 3 self.now.draft.now.cursor.statement.span) (seen self.now) (piece self.now found) found.byte (rest self.now found)) }
     {
         if self.draft.cursor.statement.span >= 3 {
             return late_flaw(spelled(self.text, found.name), found.byte);
@@ -206,13 +214,13 @@ impl Reading<'_> {
             Line::Fresh => self.fresh_flaw(w),
             Line::MethodName => self.method_flaw(w),
             Line::MethodNumber => self.number_flaw(w),
-            Line::MethodArity => arity_flaw(w),
+            Line::MethodArity(_) => arity_flaw(w),
         }
     }
 
     // The fault of a piece of a label.
     fn label_flaw(&self, label: Label, found: Found) -> Option<TextReason>
-        ensures { told result ≡ worst (label_flaws label (seen self.now) (spelling self.now.text.now found.name) found.byte (drop found.name.to self.now.text.now)) }
+        ensures { told result ≡ worst (label_flaws label (seen self.now) (piece self.now found) found.byte (rest self.now found)) }
     {
         match label {
             Label::Begin => self.begin_flaw(found),
@@ -224,19 +232,19 @@ impl Reading<'_> {
 
     // The fault of a piece of a pattern.
     fn inner_flaw(&self, inner: Inner, found: Found) -> Option<TextReason>
-        ensures { told result ≡ worst (inner_flaws inner (seen self.now) (spelling self.now.text.now found.name) found.byte (drop found.name.to self.now.text.now)) }
+        ensures { told result ≡ worst (inner_flaws inner (seen self.now) (piece self.now found) found.byte (rest self.now found)) }
     {
         match inner {
             Inner::First if found.byte == b')' => self.closing_flaw(),
             Inner::Returned | Inner::First | Inner::Param => self.pattern_flaw(found),
-            Inner::Negated | Inner::Quoted => name_flaw(spelled(self.text, found.name)),
+            Inner::Negated(_) | Inner::Quoted(_) => name_flaw(spelled(self.text, found.name)),
             Inner::Unquote => None,
         }
     }
 
     // The fault of a piece; the first by number.
     pub(crate) fn flaw(&self, found: Found) -> Option<TextReason>
-        ensures { told result ≡ worst (flaws (seen self.now) (spelling self.now.text.now found.name) found.byte (drop found.name.to self.now.text.now)) }
+        ensures { told result ≡ worst (flaws (seen self.now) (piece self.now found) found.byte (rest self.now found)) }
     {
         let w = spelled(self.text, found.name);
         match self.draft.cursor.spot {

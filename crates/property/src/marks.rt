@@ -63,7 +63,7 @@ impl Class {
         ensures { result ≡ in_class self b }
     {
         matches!(
-            (self, classify(b as char)),
+            (self, classify(char::from(b))),
             (Class::Spaces, Mark::Space)
                 | (Class::Wordy, Mark::Capital | Mark::Small | Mark::Digit)
                 | (Class::Digits, Mark::Digit)

@@ -1,5 +1,5 @@
 // What each piece of a text adds to a draft.
-ghost use Rattle.std.specs.Prelude.{◌≡◌, ℕ, ◌+◌, ◌<◌, ◌≤◌, true, false, List, [], ◌∷◌, ◌++◌, length, if◌then◌else◌, OnOk, IfOk, nat_eq};
+ghost use Rattle.std.specs.Prelude.{◌≡◌, ℕ, List, [], if◌then◌else◌, OnOk, IfOk, nat_eq};
 ghost use Rattle.property.specs.Moves.{visit, hold, declare, number_of, arity_of};
 ghost use Rattle.forms.specs.Bytes.{capital};
 ghost use Rattle.property.specs.Cursors as cursor;
@@ -62,12 +62,12 @@ impl Draft {
     }
 
     // The method of a line is declared.
-    fn add_method(&mut self, arity: usize) -> Result<(), AllocError>
-        ensures { OnOk result ((t : List ℕ) → view t self.new ≡ declare arity (view t self.old)) }
+    fn add_method(&mut self, number: u32, arity: usize) -> Result<(), AllocError>
+        ensures { OnOk result ((t : List ℕ) → view t self.new ≡ declare number arity (view t self.old)) }
     {
         let method = Method {
             name: self.word,
-            number: self.cursor.number,
+            number,
             arity,
         };
         self.methods.push(method)?;
@@ -85,28 +85,13 @@ impl Draft {
     }
 }
 
-impl Cursor {
-    // The cursor after a byte that stands before the first line's keyword.
-    fn margin(mut self, byte: u8) -> Cursor
-        ensures { result ≡ state.margin byte self }
-    {
-        if byte != b' ' {
-            self.spot = Spot::Head(Head::Keyword);
-            self.count = 1;
-        }
-        self
-    }
-
-    // The cursor after a letter of the keyword.
-    fn keyword(mut self) -> Cursor
-        ensures { result ≡ state.keyword self }
-    {
-        if self.count < 7 {
-            self.count += 1;
-        } else {
-            self.spot = Spot::Head(Head::Gap);
-        }
-        self
+// Where a letter of the keyword leads, with so many read before it.
+fn after_letter(read: usize) -> Head
+    ensures { result ≡ state.after_letter read }
+{
+    match read {
+        0..7 => Head::Keyword(read + 1),
+        _ => Head::Gap,
     }
 }
 
@@ -116,8 +101,9 @@ impl Draft {
         ensures { (t : List ℕ) → view t self.new ≡ state.head_moved head (view t self.old) (spelling t found.name) found.byte }
     {
         match head {
-            Head::Margin => self.cursor = self.cursor.margin(found.byte),
-            Head::Keyword => self.cursor = self.cursor.keyword(),
+            Head::Margin if found.byte == b' ' => {}
+            Head::Margin => self.cursor.spot = Spot::Head(Head::Keyword(1)),
+            Head::Keyword(read) => self.cursor.spot = Spot::Head(after_letter(read)),
             Head::Gap => self.cursor.spot = Spot::Head(Head::Title),
             Head::Title => {
                 self.name = found.name;
@@ -171,12 +157,10 @@ impl Draft {
                 self.word = name;
                 Spot::Line(Line::MethodNumber)
             }
-            Line::MethodNumber => {
-                self.cursor.number = capped(spelled(text, name));
-                Spot::Line(Line::MethodArity)
-            }
-            Line::MethodArity => {
-                self.add_method(capped(spelled(text, name)) as usize)?;
+            Line::MethodNumber => Spot::Line(Line::MethodArity(capped(spelled(text, name)))),
+            Line::MethodArity(number) => {
+                // Kept `as`: std has no `From` of u32 for usize.
+                self.add_method(number, capped(spelled(text, name)) as usize)?;
                 Spot::Line(Line::Ending)
             }
         };
@@ -218,33 +202,33 @@ impl Draft {
         ensures { OnOk result (view text.now self.new ≡ state.begins (spelling text.now found.name) found.byte found.name.from (view text.now self.old)) }
     {
         let place = found.name.from;
-        self.cursor = match found.byte {
-            b'*' => self.cursor.filled(Slot {
-                pattern: Pattern::Any,
-                place,
-            }),
-            b'!' => self.cursor.placed(place, Inner::Negated),
-            b'<' => self.cursor.placed(place, Inner::Quoted),
+        match found.byte {
+            b'*' => {
+                let pattern = Pattern::Any;
+                self.cursor = self.cursor.filled(Slot { pattern, place });
+            }
+            b'!' => self.cursor.spot = Spot::Inner(Inner::Negated(place)),
+            b'<' => self.cursor.spot = Spot::Inner(Inner::Quoted(place)),
             _ => return self.variable(text, found.name),
-        };
+        }
         Ok(())
     }
 
-    // A variable is read that the value has to differ from.
-    fn negated(&mut self, text: &[u8], name: Name) -> Result<(), AllocError>
-        ensures { OnOk result (view text.now self.new ≡ state.inner_moved Inner.Negated (view text.now self.old) (spelling text.now name) 0 0) }
+    // A variable is read that the value has to differ from, in a pattern that began at a place.
+    fn negated(&mut self, text: &[u8], name: Name, place: usize) -> Result<(), AllocError>
+        ensures { OnOk result (view text.now self.new ≡ state.inner_moved (Inner.Negated place) (view text.now self.old) (spelling text.now name) 0 0) }
     {
-        let register = self.hold(text, Register::Variable(name))?;
-        self.cursor = self.cursor.inside(Pattern::Differs(register));
+        let pattern = Pattern::Differs(self.hold(text, Register::Variable(name))?);
+        self.cursor = self.cursor.filled(Slot { pattern, place });
         Ok(())
     }
 
-    // A constant is read.
-    fn quoted(&mut self, text: &[u8], name: Name) -> Result<(), AllocError>
-        ensures { OnOk result (view text.now self.new ≡ state.inner_moved Inner.Quoted (view text.now self.old) (spelling text.now name) 0 0) }
+    // A constant is read, in a pattern that began at a place.
+    fn quoted(&mut self, text: &[u8], name: Name, place: usize) -> Result<(), AllocError>
+        ensures { OnOk result (view text.now self.new ≡ state.inner_moved (Inner.Quoted place) (view text.now self.old) (spelling text.now name) 0 0) }
     {
-        let register = self.hold(text, Register::Constant(name))?;
-        self.cursor = self.cursor.inside(Pattern::Same(register));
+        let pattern = Pattern::Same(self.hold(text, Register::Constant(name))?);
+        self.cursor = self.cursor.filled(Slot { pattern, place });
         self.cursor.spot = Spot::Inner(Inner::Unquote);
         Ok(())
     }
@@ -258,29 +242,11 @@ fn begins_capital(w: &[u8]) -> bool
 }
 
 impl Cursor {
-    // The cursor, where a pattern begins at a place and goes on inside.
-    fn placed(mut self, place: usize, inner: Inner) -> Cursor
-        ensures { result ≡ cursor.to (Spot.Inner inner) (cursor.labelled (cursor.placed place self.label) self) }
+    // The cursor, where a label begins, of a kind, with so many patterns, and goes on at a spot.
+    fn labelled(mut self, kind: Kind, count: usize, spot: Spot) -> Cursor
+        ensures { result ≡ cursor.to spot (cursor.labelled (cursor.opened kind count) self) }
     {
-        self.label.place = place;
-        self.spot = Spot::Inner(inner);
-        self
-    }
-
-    // The cursor, where the pattern is read that began at the label's place.
-    fn inside(self, pattern: Pattern) -> Cursor
-        ensures { result ≡ cursor.filled (record { pattern = pattern; place = self.label.place }) self }
-    {
-        let place = self.label.place;
-        self.filled(Slot { pattern, place })
-    }
-
-    // The cursor, where a label begins, of a kind, at a place, and goes on at a spot.
-    fn labelled(mut self, kind: Kind, place: usize, count: usize, spot: Spot) -> Cursor
-        ensures { result ≡ cursor.to spot (cursor.counted count (cursor.labelled (cursor.opened kind place) self)) }
-    {
-        self.label = Partial::opened(kind, place);
-        self.count = count;
+        self.label = Partial::opened(kind, count);
         self.spot = spot;
         self
     }
@@ -313,9 +279,9 @@ impl Cursor {
 
     // The spot after the `>` of a constant.
     fn unquoted(self) -> Spot
-        ensures { result ≡ Spot.Label (if nat_eq self.count 1 then Label.Becomes else Label.Comma) }
+        ensures { result ≡ Spot.Label (if nat_eq self.label.count 1 then Label.Becomes else Label.Comma) }
     {
-        match self.count {
+        match self.label.count {
             1 => Spot::Label(Label::Becomes),
             _ => Spot::Label(Label::Comma),
         }
@@ -328,7 +294,7 @@ impl Draft {
         ensures { OnOk result (view text.now self.new ≡ state.whole_begins (spelling text.now found.name) found.byte found.name.from (view text.now self.old)) }
     {
         let spot = self.cursor.spot;
-        self.cursor = self.cursor.labelled(Kind::Both, found.name.from, 0, spot);
+        self.cursor = self.cursor.labelled(Kind::Both, 0, spot);
         self.pattern(text, found)
     }
 
@@ -337,15 +303,14 @@ impl Draft {
         ensures { OnOk result (view text.now self.new ≡ state.label_moved Label.Begin (view text.now self.old) (spelling text.now found.name) found.byte found.name.from) }
     {
         let w = spelled(text, found.name);
-        let place = found.name.from;
         if found.byte == b'*' {
             self.cursor.spot = Spot::Label(Label::Star);
         } else if w == b"call".as_slice() {
             let spot = Spot::Label(Label::Callee);
-            self.cursor = self.cursor.labelled(Kind::Call, place, 1, spot);
+            self.cursor = self.cursor.labelled(Kind::Call, 1, spot);
         } else if w == b"ret".as_slice() {
             let spot = Spot::Inner(Inner::Returned);
-            self.cursor = self.cursor.labelled(Kind::Return, place, 0, spot);
+            self.cursor = self.cursor.labelled(Kind::Return, 0, spot);
         } else {
             return self.whole(text, found);
         }
@@ -358,7 +323,7 @@ impl Draft {
     {
         if found.byte == b':' {
             let spot = Spot::Label(Label::Equals);
-            self.cursor = self.cursor.labelled(Kind::Both, found.name.from, 1, spot);
+            self.cursor = self.cursor.labelled(Kind::Both, 1, spot);
             return Ok(());
         }
         self.cursor = self.cursor.met(Event::Any);
@@ -412,8 +377,8 @@ impl Draft {
         match inner {
             Inner::First if found.byte == b')' => self.cursor = self.cursor.finished(),
             Inner::Returned | Inner::First | Inner::Param => return self.pattern(text, found),
-            Inner::Negated => return self.negated(text, found.name),
-            Inner::Quoted => return self.quoted(text, found.name),
+            Inner::Negated(place) => return self.negated(text, found.name, place),
+            Inner::Quoted(place) => return self.quoted(text, found.name, place),
             Inner::Unquote => self.cursor.spot = self.cursor.unquoted(),
         }
         Ok(())

@@ -1,6 +1,6 @@
 // Which bytes may come at each spot, and where a text may end.
-ghost use Rattle.std.specs.Prelude.{◌≡◌, ℕ, List};
-ghost use Rattle.property.specs.Grammar.{head_opens, line_opens, route_opens, pattern_opens, label_opens, inner_opens, opens_at, tight_at, none_left, line_ends, label_ends, ends_at};
+ghost use Rattle.std.specs.Prelude.{◌≡◌};
+ghost use Rattle.property.specs.Grammar.{head_opens, line_opens, route_opens, pattern_opens, label_opens, inner_opens, opens_at, tight_at, line_ends, label_ends, ends_at};
 
 use crate::marks::*;
 use crate::spot::*;
@@ -13,19 +13,19 @@ fn begins_pattern(b: u8) -> bool
     ensures { result ≡ pattern_opens b }
 {
     matches!(
-        classify(b as char),
+        classify(char::from(b)),
         Mark::Capital | Mark::Small | Mark::Star | Mark::Bang | Mark::Less
     )
 }
 
 impl Head {
-    // Whether the byte may come, with so many letters of the keyword read.
-    pub(crate) fn opens(self, count: usize, b: u8) -> bool
-        ensures { result ≡ head_opens self count b }
+    // Whether the byte may come.
+    pub(crate) fn opens(self, b: u8) -> bool
+        ensures { result ≡ head_opens self b }
     {
         match self {
             Head::Margin => b == b' ' || b == b'p',
-            Head::Keyword => b == KEYWORD[count.min(7)],
+            Head::Keyword(read) => b == KEYWORD[read.min(7)],
             Head::Gap => b == b' ',
             Head::Title => b.is_ascii_alphabetic(),
         }
@@ -38,10 +38,10 @@ impl Line {
         ensures { result ≡ line_opens self b }
     {
         matches!(
-            (self, classify(b as char)),
+            (self, classify(char::from(b))),
             (Line::Ending, Mark::Newline)
                 | (Line::Fresh | Line::MethodName, Mark::Capital | Mark::Small)
-                | (Line::MethodNumber | Line::MethodArity, Mark::Digit)
+                | (Line::MethodNumber | Line::MethodArity(_), Mark::Digit)
         )
     }
 
@@ -63,7 +63,7 @@ impl Route {
         ensures { result ≡ route_opens self b }
     {
         matches!(
-            (self, classify(b as char)),
+            (self, classify(char::from(b))),
             (Route::Minus, Mark::Minus)
                 | (Route::Greater, Mark::Greater)
                 | (Route::Target, Mark::Capital | Mark::Small)
@@ -105,20 +105,20 @@ impl Inner {
         match self {
             Inner::Returned | Inner::Param => begins_pattern(b),
             Inner::First => b == b')' || begins_pattern(b),
-            Inner::Negated => b.is_ascii_lowercase(),
-            Inner::Quoted => b.is_ascii_alphabetic(),
+            Inner::Negated(_) => b.is_ascii_lowercase(),
+            Inner::Quoted(_) => b.is_ascii_alphabetic(),
             Inner::Unquote => b == b'>',
         }
     }
 }
 
 impl Spot {
-    // Whether the byte may come, with so many letters of the keyword read.
-    pub(crate) fn opens(self, count: usize, b: u8) -> bool
-        ensures { result ≡ opens_at self count b }
+    // Whether the byte may come.
+    pub(crate) fn opens(self, b: u8) -> bool
+        ensures { result ≡ opens_at self b }
     {
         match self {
-            Spot::Head(h) => h.opens(count, b),
+            Spot::Head(h) => h.opens(b),
             Spot::Line(l) => l.opens(b),
             Spot::Route(r) => r.opens(b),
             Spot::Label(l) => l.opens(b),
@@ -132,7 +132,7 @@ impl Spot {
     {
         matches!(
             self,
-            Spot::Head(Head::Margin | Head::Keyword | Head::Gap)
+            Spot::Head(Head::Margin | Head::Keyword(_) | Head::Gap)
                 | Spot::Route(Route::Greater)
                 | Spot::Label(Label::Equals)
         )

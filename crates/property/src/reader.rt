@@ -1,5 +1,5 @@
 // Reading a property text, piece by piece.
-ghost use Rattle.std.specs.Prelude.{◌≡◌, ℕ, ◌+◌, ◌-◌, ◌<◌, ◌≤◌, true, false, ◌&&◌, length, MatchResult, ◌==◌, nat_lt, slice_index};
+ghost use Rattle.std.specs.Prelude.{◌≡◌, ◌+◌, ◌-◌, ◌<◌, ◌≤◌, true, false, ◌&&◌, length, MatchResult, ◌==◌, nat_lt, slice_index};
 ghost use Rattle.forms.specs.Bytes.{digit, space};
 ghost use Rattle.kinds.specs.Refusals.{text_number};
 ghost use Rattle.property.specs.Reads.{Gapped, Lexed, Halts, ComesNext, Read};
@@ -121,7 +121,7 @@ impl Reader<'_> {
     {
         let spot = draft.cursor.spot;
         let byte = self.text[from];
-        if !spot.opens(draft.cursor.count, byte) {
+        if !spot.opens(byte) {
             return Err(Flaw::no_form(from));
         }
         let to = self.end(spot, from)?;

@@ -1,22 +1,22 @@
 // Where in a property text a reader stands.
 
-// In the first line.
+// In the first line; in its keyword with how many letters of it have been read.
 #[derive(Clone, Copy)]
 pub enum Head {
     Margin,
-    Keyword,
+    Keyword(usize),
     Gap,
     Title,
 }
 
-// In a line that is no statement, or at a line's beginning or end.
+// In a line that is no statement, or at a line's beginning or end; before a method's arity with its number.
 #[derive(Clone, Copy)]
 pub enum Line {
     Ending,
     Fresh,
     MethodName,
     MethodNumber,
-    MethodArity,
+    MethodArity(u32),
 }
 
 // Between a statement's source and its first label.
@@ -41,14 +41,15 @@ pub enum Label {
     End,
 }
 
-// In a pattern: where the returned one begins, where the first parameter or a closing bracket stands, where another begins, and inside of one.
+// In a pattern: where the returned one begins, where the first parameter or a closing bracket stands, where another begins, and inside of one, after `!` or `<`
+// with the place of that mark.
 #[derive(Clone, Copy)]
 pub enum Inner {
     Returned,
     First,
     Param,
-    Negated,
-    Quoted,
+    Negated(usize),
+    Quoted(usize),
     Unquote,
 }
 

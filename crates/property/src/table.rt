@@ -2,8 +2,10 @@
 ghost use Rattle.std.specs.Prelude.{◌≡◌};
 ghost use Rattle.property.specs.Views.{name_of};
 
+pub use topl::pattern::Pattern;
+
 // A name, by the bytes of the text from one place up to another.
-// Kept as places: a slice of the text would tie the draft to the text's borrow, and a String would take memory for each name.
+// Kept places: a slice of the text would tie the draft to the text's borrow, and a String would take memory for each name.
 #[derive(Clone, Copy)]
 pub struct Name {
     pub from: usize,
@@ -36,28 +38,19 @@ impl Register {
     }
 }
 
-// A pattern: any value; any, which it writes; the value of a register; any other than that.
-#[derive(Clone, Copy)]
-pub enum Pattern {
-    Any,
-    Write(usize),
-    Same(usize),
-    Differs(usize),
-}
-
 // A pattern and the place of its first byte in the text.
 #[derive(Clone, Copy)]
 pub struct Slot {
-    pub pattern: Pattern,
+    pub pattern: Pattern<usize>,
     pub place: usize,
 }
 
 // A call of a method: of its slots as many count as the method has parameters.
-// Kept an array: the type is public and `Copy`, which an ArrayVec is not.
 #[derive(Clone, Copy)]
 pub struct Call {
     pub number: u32,
     pub arity: usize,
+    // Kept an array: the type is public and `Copy`, which an ArrayVec is not.
     pub slots: [Slot; 5],
 }
 
@@ -77,11 +70,11 @@ pub enum Event {
 }
 
 // A statement: of its events as many count as it spans.
-// Kept an array, as in a call.
 #[derive(Clone, Copy)]
 pub struct Statement {
     pub source: usize,
     pub target: usize,
+    // Kept an array with its count: the type is public and `Copy`, which an ArrayVec is not.
     pub events: [Event; 4],
     pub span: usize,
 }

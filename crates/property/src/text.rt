@@ -1,5 +1,5 @@
 // Reading a whole property text into a draft.
-ghost use Rattle.std.specs.Prelude.{◌≡◌, ℕ, List, Decides, MatchResult, nat_eq};
+ghost use Rattle.std.specs.Prelude.{◌≡◌, ℕ, List, Decides, MatchResult};
 ghost use Rattle.forms.specs.Forms.{Accepted, Before};
 ghost use Rattle.kinds.specs.Refusals.{text_number};
 ghost use Rattle.property.specs.Grammar.{any_text, property_text};
@@ -7,7 +7,6 @@ ghost use Rattle.property.specs.States.{nothing_read, routed as routes};
 ghost use Rattle.property.specs.Outcomes.{Explains, ExplainsBounded};
 ghost use Rattle.property.specs.Views.{view, sofar};
 ghost use Rattle.property.specs.declared.text.Failure.TheVariants.{At, Memory};
-ghost use Rattle.std.specs.List.{list_any};
 
 use crate::cursor::*;
 use crate::draft::*;
@@ -18,6 +17,7 @@ use crate::words::*;
 use forms::finding::Finding;
 use kinds::text_reason::TextReason;
 use std::alloc::{AllocError, Global};
+use topl::states::{ERROR, START};
 
 // How many bytes a text may have.
 const LIMIT: usize = 8192;
@@ -56,7 +56,6 @@ impl Draft {
     pub fn new(heap: Global) -> Draft
         ensures { (t : List ℕ) → view t result ≡ nothing_read }
     {
-        // Kept an empty name where none is read yet: the view of a finished draft gives its name without a case.
         let nowhere = Name { from: 0, to: 0 };
         Draft {
             cursor: Cursor::origin(),
@@ -74,22 +73,8 @@ impl Draft {
 fn routed(statements: &[Statement]) -> bool
     ensures { result ≡ routes statements.now }
 {
-    leaves_start(statements) && reaches_error(statements)
-}
-
-// Whether some statement leaves `start`.
-// Kept apart from `reaches_error`: with both chains in one function the goals `returns-then-any` and `returns-else-any` stay open.
-fn leaves_start(statements: &[Statement]) -> bool
-    ensures { result ≡ list_any (λ s. nat_eq s.source 0) statements.now }
-{
-    statements.iter().any(|s| s.source == START)
-}
-
-// Whether some statement leads to `error`.
-fn reaches_error(statements: &[Statement]) -> bool
-    ensures { result ≡ list_any (λ s. nat_eq s.target 1) statements.now }
-{
-    statements.iter().any(|s| s.target == ERROR)
+    statements.iter().any(|s| s.source == usize::from(START))
+        && statements.iter().any(|s| s.target == usize::from(ERROR))
 }
 
 // The draft of a text of any length, or why there is none.
@@ -105,10 +90,11 @@ fn read_any(heap: Global, text: &[u8]) -> Result<Draft, Failure>
     draft.close()?;
     if !routed(draft.statements.as_slice()) {
         let place = text.len();
-        return Err(Failure::At(Flaw {
+        let flaw = Flaw {
             reason: TextReason::NoRoute,
             place,
-        }));
+        };
+        return Err(flaw.into());
     }
     Ok(draft)
 }
@@ -138,10 +124,8 @@ fn read_draft(heap: Global, text: &[u8]) -> Result<Draft, Failure>
     ensures { MatchResult result (λ d. Accepted property_text text.now (sofar text.now d)) (λ e. ExplainsBounded text.now e) }
 {
     match read_any(heap, text) {
-        Ok(_) if text.len() > LIMIT => Err(Failure::At(TOO_LONG)),
-        Err(Failure::At(f)) if text.len() > LIMIT && !f.before_limit() => {
-            Err(Failure::At(TOO_LONG))
-        }
+        Ok(_) if text.len() > LIMIT => Err(TOO_LONG.into()),
+        Err(Failure::At(f)) if text.len() > LIMIT && !f.before_limit() => { Err(TOO_LONG.into()) }
         found => found,
     }
 }

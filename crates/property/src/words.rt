@@ -1,5 +1,5 @@
 // Words of a text, and numbers.
-ghost use Rattle.std.specs.Prelude.{◌≡◌, ◌<◌, ◌≤◌, min, length, drop, if◌then◌else◌, ◌==◌, not, nat_le, position, Some, None};
+ghost use Rattle.std.specs.Prelude.{◌≡◌, ◌+◌, ◌-◌, ◌*◌, min, length, drop, if◌then◌else◌, ◌==◌, not, nat_le, position, Some, None};
 ghost use Rattle.forms.specs.Bytes.{letter, small, value, space, wordy};
 ghost use Rattle.property.specs.Marks.{in_class};
 ghost use Rattle.property.specs.Reading.{Passed};
@@ -28,11 +28,6 @@ pub(crate) fn reserved(w: &[u8]) -> bool
         .any(|r| w == *r)
 }
 
-// The numbers of the states that each property has.
-pub(crate) const START: usize = 0;
-
-pub(crate) const ERROR: usize = 1;
-
 // Whether a word is the state that each property starts in.
 pub(crate) fn is_start(w: &[u8]) -> bool
     ensures { result ≡ state.is_start w.now }
@@ -59,6 +54,7 @@ pub(crate) fn same_variable(a: &[u8], b: &[u8]) -> bool
 
 impl Register {
     // Whether two constants or variables have one register.
+    // Kept beside no `PartialEq`: a name is two places, and which bytes stand there only the text says.
     pub(crate) fn same(self, other: Register, text: &[u8]) -> bool
         ensures { result ≡ same_key (key_of text.now self) (key_of text.now other) }
     {
@@ -101,27 +97,27 @@ pub(crate) fn skip(text: &[u8], class: Class, at: usize) -> usize
     }
 }
 
+// The number with one more digit, none where it is over 65,535.
+fn appended(v: u16, digit: u8) -> Option<u16>
+    ensures { result ≡ (if nat_le (v * 10 + (digit - 48)) 65535 then Some (v * 10 + (digit - 48)) else None) }
+{
+    v.checked_mul(10)?
+        .checked_add(u16::from(digit.saturating_sub(b'0')))
+}
+
 // The number that digits write, none where it is over 65,535.
-// Kept a loop: of `try_fold` over checked sums the goal `returns` stays open.
-pub(crate) fn decimal(digits: &[u8]) -> Option<u32>
+pub(crate) fn decimal(digits: &[u8]) -> Option<u16>
     ensures { result ≡ (if nat_le (value digits.now) 65535 then Some (value digits.now) else None) }
 {
-    let mut v = 0;
-    for b in digits {
-        v = v * 10 + u32::from(b.saturating_sub(b'0'));
-        if v > 65535 {
-            return None;
-        }
-    }
-    Some(v)
+    digits.iter().try_fold(0, |v, b| appended(v, *b))
 }
 
 // The number that digits write, where all over 65,535 stand as one.
-// Kept a number past the limit: the definition capped gives it, and each of the two callers would make it of an Option.
+// Kept 65,536 for what is too large: the text has a fault there, and an Option would have to go on into the spot and the method.
 pub(crate) fn capped(digits: &[u8]) -> u32
     ensures { result ≡ most digits.now }
 {
-    decimal(digits).unwrap_or(65536)
+    decimal(digits).map_or(65536, u32::from)
 }
 
 // Whether a colon comes after the spaces at a place.

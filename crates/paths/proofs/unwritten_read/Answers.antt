@@ -1,28 +1,18 @@
-use Rattle.std.proofs.Common.{◌≡◌, ℕ, ◌+◌, length, sym, ap, ◌∙◌, subst, arith}
-use Rattle.property.specs.declared.table.Register.{Register}
-use Rattle.property.specs.declared.table.Register.TheVariants as registers
-use Rattle.property.specs.Views.{is_constant}
+use Rattle.std.proofs.Common.{◌≡◌, ℕ, None, List, length, refl, sym, subst, arith, rules, tests}
+use Rattle.std.proofs.lemmas.Iterator.{YieldsList-from_slice}
+use Rattle.std.proofs.lemmas.Iterator.Consumers.{YieldsList-from_enumerate}
+use Rattle.std.specs.Iterator.Adapters.{filter_map_source, filter_map_callee}
+use Rattle.std.specs.List.{enumerate_from}
 use Rattle.paths.specs.Reads.{FirstOf}
-use Rattle.paths.proofs.Minima.{least_two}
-use Rattle.paths.proofs.Registers.{constant_more, variable_more, held}
+use Rattle.paths.proofs.Chains.{Gives, least_given}
+use Rattle.paths.proofs.Registers.{Here, over, first_none}
 use Rattle.paths.proofs.unwritten_read.Goals as goal
-use Rattle.paths.proofs.unwritten_read.Goals.{in-Variable, in_default}
-
-pub loop-x-preserved : goal.loop-x-preserved
-loop-x-preserved c =
-    let ss = c.args.statements.now in
-    let gs = c.args.registers.now in
-    let i = c.loop-x.x in
-    let d : Register = registers.Constant (record { from = 0; to = 0 }) in
-    elim c.match-g.branch [
-      | in-Variable w ↦
-          subst (FirstOf ss gs (i + 1)) (sym (w.best-is ∙ (w.lesser-best.ensures ∙ least_two c.loop-x.best w.first_read.result)))
-          (variable_more ss gs i c.loop-x.best w.first_read.result (held ss gs i d c.loop-x-test.true (ap is_constant w.in-Variable.is)) c.loop-x.invariant w.first_read.ensures)
-      | in_default w ↦
-          subst (FirstOf ss gs (i + 1)) (sym w.best-is) (constant_more ss gs i c.loop-x.best d c.loop-x-test.true (ap is_constant w.in_default.is) c.loop-x.invariant)
-    ]
 
 pub returns : goal.returns
 returns c =
-    let e : c.loop-x.x ≡ length c.args.registers.now = omega arith in
-    subst (λ (k : ℕ). FirstOf c.args.statements.now c.args.registers.now k c.loop-x.best) e c.loop-x.invariant
+    let ss = c.args.statements.now in
+    let gs = c.args.registers.now in
+    let m : (zs : List ℕ) × Gives (Here ss gs) (enumerate_from 0 gs) zs × (c.min.result ≡ _) =
+    least_given filter_map_source filter_map_callee _ (Here ss gs) c.filter_map.result c.min.result c.min.ensures.ran
+    (YieldsList-from_enumerate (YieldsList-from_slice gs cc) cc) c.filter_map.ensures.closure (λ x o q k. search (rules, tests)) in
+    subst (FirstOf ss gs (length gs)) (sym m.2) (over ss gs 0 gs m.0 None (omega arith) refl m.1 (first_none ss gs 0))

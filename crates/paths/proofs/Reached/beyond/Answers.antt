@@ -4,6 +4,7 @@ use Rattle.std.proofs.lemmas.Bool.{false≢true}
 use Rattle.std.specs.List.{AllWithin, HoldsAt}
 use Rattle.property.specs.declared.table.Statement.{Statement}
 use Rattle.paths.specs.Paths.{Unwritten, along, statement_writes, state}
+use Rattle.paths.specs.Search.{found, leads}
 use Rattle.paths.proofs.Reached.beyond.Goals as goal
 
 parts : (a b d : Bool) → not a && (b && not d) ≡ true → (a ≡ false) × (b ≡ true) × (d ≡ false)
@@ -20,17 +21,16 @@ Found f ss o =
 
 pub returns : goal.returns
 returns c =
-    let ss = c.args.statements.now in
-    let x = c.args.x in
-    let f = c.args.self.now.seen in
+    let r = c.args.self.now in
+    let ss = r.statements.now in
+    let x = r.register in
     let s = c.in_ok-found.found.now in
-    let test = λ (s : Statement). not (statement_writes x s) && (get_or f (state s.source) false && not (get_or f (state s.target) false)) in
-    let found : Found test ss c.find.result =
-    first_from_find _ _ c.find.result (λ s. test s ≡ true) (λ s. test s ≡ false) c.find.ensures.ran (YieldsList-from_slice ss cc) (λ x q k. search (rules, tests)) (λ x q k. search (rules, tests)) in
-    let y = subst (Found test ss) (c.in_ok-found.was {u = tt}) found in
-    let p = parts (statement_writes x s) (get_or f (state s.source) false) (get_or f (state s.target) false) y.0 in (
+    let there : Found (leads r) ss c.find.result =
+    first_from_find _ _ c.find.result (λ s. leads r s ≡ true) (λ s. leads r s ≡ false) c.find.ensures.ran (YieldsList-from_slice ss cc) (λ x q k. search (rules, tests)) (λ x q k. search (rules, tests)) in
+    let y = subst (Found (leads r) ss) (c.in_ok-found.was {u = tt}) there in
+    let p = parts (statement_writes x s) (found r s.source) (found r s.target) y.0 in (
       p.2,
       λ sound. subst (λ (u : Statement). Unwritten ss x (state u.target)) (y.3 s)
           (along y.1 s y.2 (subst (λ (u : Statement). statement_writes x u ≡ false) (sym (y.3 s)) p.0)
-          (sound (state (get_or ss y.1 s).source) (subst (λ (u : Statement). get_or f (state u.source) false ≡ true) (sym (y.3 s)) p.1))),
+          (sound (state (get_or ss y.1 s).source) (subst (λ (u : Statement). found r u.source ≡ true) (sym (y.3 s)) p.1))),
     )

@@ -1,4 +1,5 @@
-use Rattle.std.proofs.Common.{◌≡◌, ℕ, List, length, Some, None, Option, refl, subst, inr}
+use Rattle.std.proofs.Common.{◌≡◌, ℕ, List, length, Some, None, Option, refl, sym, subst, inr}
+use Rattle.paths.specs.Outcomes.{Refuses}
 use Rattle.paths.specs.Reads.{FirstOf}
 use Rattle.property.specs.declared.table.Register.{Register}
 use Rattle.property.specs.declared.table.Statement.{Statement}
@@ -9,7 +10,11 @@ both ss ts gs hs o e f x =
     subst (λ (ys : List Statement). FirstOf ys hs (length hs) o) e (subst (λ (ys : List Register). FirstOf ss ys (length ys) o) f x)
 
 pub returns-in-Some : goal.returns-in-Some
-returns-in-Some c = (inr (refl, (c.read.new.draft, c.in_ok-read.ensures, both _ _ _ _ (Some c.in-Some.place) c.deref.ensures.value c.deref-2.ensures.value c.in-Some.ensures)), refl)
+returns-in-Some c = (
+  subst (Refuses c.args.text.now) (sym c.into.ensures)
+      (inr (refl, (c.read.new.draft, c.in_ok-read.ensures, both _ _ _ _ (Some c.in-Some.place) c.deref.ensures.value c.deref-2.ensures.value c.in-Some.ensures))),
+  refl,
+)
 
 pub returns : goal.returns
 returns c = (c.in_ok-read.ensures, both _ _ _ _ None c.deref.ensures.value c.deref-2.ensures.value c.in_default.ensures)

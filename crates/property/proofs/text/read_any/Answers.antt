@@ -4,6 +4,7 @@ use Rattle.forms.specs.Grammars.{form}
 use Rattle.forms.specs.Steps.{Carries}
 use Rattle.kinds.specs.Refusals.{text_number}
 use Rattle.property.specs.Grammar.{any_text, text}
+use Rattle.property.specs.Outcomes.{Explains}
 use Rattle.property.specs.Reads.{ComesNext, Read, Finished}
 use Rattle.property.specs.States.{State, Property, moved, routed, closing}
 use Rattle.property.specs.declared.draft.Draft.{Draft}
@@ -63,9 +64,10 @@ returns-then-not-routed c =
     let d = c.loop-draft.draft in
     let a = c.loop-draft.reader.place in
     let last = c.close.new.self in
-    lost t u d a (ap (λ (r : Bor (List ℕ)). r.now) c.loop-draft.invariant.0) c.loop-draft.invariant.2
+    subst (Explains u) (sym c.into.ensures)
+    (lost t u d a (ap (λ (r : Bor (List ℕ)). r.now) c.loop-draft.invariant.0) c.loop-draft.invariant.2
     (subst (ComesNext (view t d) t a) c.in_default.is c.in_ok-found.ensures) c.loop-draft.invariant.1
-    (routed_by (sofar u last) (closing (view u d)) c.as_slice.result.now c.routed.result false (c.in_ok-close.ensures u) c.as_slice.ensures.value c.routed.ensures c.if-not-routed.true)
+    (routed_by (sofar u last) (closing (view u d)) c.as_slice.result.now c.routed.result false (c.in_ok-close.ensures u) c.as_slice.ensures.value c.routed.ensures c.if-not-routed.true))
 
 pub returns : goal.returns
 returns c =

@@ -1,7 +1,7 @@
-use Rattle.std.proofs.Common.{◌+◌, ◌<◌, ◌≤◌, Bool, length, get_or, sym, ◌∙◌, subst, arith}
+use Rattle.std.proofs.Common.{◌+◌, Bool, get_or, sym, ◌∙◌, subst, arith}
 use Rattle.forms.specs.Bytes.{digit, wordy}
 use Rattle.property.specs.Reads.{Lexed}
-use Rattle.property.proofs.Readings.{lexed_byte, lexed_word, lexed_number, lexed_mark, not_padded, padded_zero, wordless, longer}
+use Rattle.property.proofs.Readings.{lexed_byte, lexed_word, lexed_number, lexed_mark, not_padded, wordless, longer}
 use Rattle.property.proofs.Texts.{passed_in}
 use Rattle.property.proofs.reader.Reader.end.Goals as goal
 
@@ -26,19 +26,6 @@ returns-then-not-has c =
     subst (λ (b : Bool). Lexed b t f (f + 1)) (sym (sym c.tight.ensures ∙ c.if-tight.false))
     (lexed_mark t f c.requires.within (c.requires.plain (sym c.tight.ensures ∙ c.if-tight.false))
     (wordless (get_or t f 0) (sym c.is_ascii_alphabetic.ensures.value ∙ c.if-is_ascii_alphabetic.false) (sym c.has.ensures ∙ c.if-not-has.true)))
-
-pub returns-then-padded : goal.returns-then-padded
-returns-then-padded c =
-    let t = c.args.self.now.text.now in
-    let f = c.args.from in
-    let q = c.skip-end.result in
-    let x = passed_in digit t f q (let w = c.requires.within in omega arith) c.skip-end.ensures in
-    let z = padded_zero (get_or t f 0) f q (sym c.padded.ensures ∙ c.if-padded.true) in
-    let l : f ≤ f + 1 = omega arith in
-    let z1 = z.1 in
-    let h = x.high in
-    let m : f + 1 < length t = omega arith in
-    (c.no_form.ensures.reason, c.no_form.ensures.place, sym c.tight.ensures ∙ c.if-tight.false, m, z.0, x.every (f + 1) l z.1)
 
 pub returns : goal.returns
 returns c =

@@ -1,16 +1,8 @@
-use Rattle.std.proofs.Common.{sym, ◌∙◌, arith}
+use Rattle.std.proofs.Common.{sym, ◌∙◌}
 use Rattle.kinds.specs.declared.text_reason.TextReason.TheVariants as reasons
 use Rattle.property.specs.Views.{view}
-use Rattle.property.proofs.Exits.{finished, broken, out, at_flaw}
+use Rattle.property.proofs.Exits.{broken, at_flaw}
 use Rattle.property.proofs.reader.Reader.next.Goals as goal
-
-pub returns-then-ends : goal.returns-then-ends
-returns-then-ends c =
-    let t = c.args.self.now.text.now in
-    let a = c.args.self.now.place in
-    let f = c.start-from.result in
-    finished t (view t c.args.draft.now) a f c.start-from.ensures c.if-from-self.true
-    (sym c.ends.ensures ∙ c.if-ends.true)
 
 pub returns-then-from-self : goal.returns-then-from-self
 returns-then-from-self c =
@@ -20,14 +12,3 @@ returns-then-from-self c =
     let p = view t c.args.draft.now in
     at_flaw p t a c.no_form.result reasons.NoForm f c.no_form.ensures.reason c.no_form.ensures.place
     (broken t p a f c.start-from.ensures c.if-from-self.true (sym c.ends.ensures ∙ c.if-ends.false))
-
-pub piece-requires : goal.piece-requires
-piece-requires c =
-    let t = c.args.self.now.text.now in
-    let a = c.args.self.now.place in
-    let f = c.start-from.result in
-    let h = c.start-from.ensures.high in
-    record { gap = c.start-from.ensures; within = omega (arith, h, c.if-from-self.false) }
-
-pub returns-in_err-found : goal.returns-in_err-found
-returns-in_err-found c = out _ _ _ c.in_err-found.field-0.0 c.from_residual.ensures.1 c.in_err-found.ensures

@@ -7,9 +7,6 @@ use Rattle.property.proofs.Exits.{off, padded, flawed, read, out, at_flaw}
 use Rattle.property.proofs.Texts.{spelled_slice}
 use Rattle.property.proofs.reader.Reader.piece.Goals as goal
 
-pub end-requires : goal.end-requires
-end-requires c = record { within = c.requires.within; plain = λ e. c.requires.gap.plain e c.requires.within }
-
 pub returns-then-not-opens : goal.returns-then-not-opens
 returns-then-not-opens c =
     let t = c.args.self.now.text.now in

@@ -1,14 +1,9 @@
 use Rattle.std.proofs.Common.{Bool, sym, ◌∙◌, subst}
 use Rattle.forms.specs.Bytes.{space}
 use Rattle.property.specs.Reads.{Gapped}
-use Rattle.property.proofs.Readings.{gap_tight, gap_loose}
+use Rattle.property.proofs.Readings.{gap_loose}
 use Rattle.property.proofs.Texts.{passed_in}
 use Rattle.property.proofs.reader.Reader.start.Goals as goal
-
-pub returns-then-tight : goal.returns-then-tight
-returns-then-tight c =
-    subst (λ (b : Bool). Gapped b c.args.self.now.text.now c.args.self.now.place c.args.self.now.place) (sym (sym c.tight.ensures ∙ c.if-tight.true))
-    (gap_tight c.args.self.now.text.now c.args.self.now.place c.requires)
 
 pub returns : goal.returns
 returns c =

@@ -2,7 +2,7 @@ use Rattle.std.proofs.Common.{◌≡◌, ℕ, zero, suc, ◌<◌, Bool, true, fa
 use Rattle.std.proofs.lemmas.Bool.{true≢false}
 use Rattle.paths.specs.Paths.{Unwritten, Closed, start, along, unset, state}
 use Rattle.property.specs.declared.table.Statement.{Statement}
-use Rattle.paths.proofs.unwritten.Goals as goal
+use Rattle.paths.proofs.Reached.all.Goals as goal
 
 -- Setting a flag that was not set.
 falls : (f : List Bool) (k : ℕ) → k < length f → get_or f k false ≡ false → unset (set f k true) < unset f
@@ -18,22 +18,21 @@ stays ss x f c s q start = s
 stays ss x f c s q (along k d h w u) = c k d h w (stays ss x f c s (state (get_or ss k d).source) u)
 
 pub loop-q-init : goal.loop-q-init
-loop-q-init c = record {
-  sound = λ q e. subst (Unwritten c.args.statements.now c.args.x) (sym ((c.start-reached.ensures q).0 e)) start;
-  begun = (c.start-reached.ensures 0).1 refl;
-}
+loop-q-init c =
+    let r = c.start-reached.result in
+    record {
+      searched = c.start-reached.ensures.searched;
+      sound = λ q e. subst (Unwritten r.statements.now r.register) (sym ((c.start-reached.ensures.start q).0 e)) start;
+      begun = (c.start-reached.ensures.start 0).1 refl;
+    }
 
 pub loop-q-smaller : goal.loop-q-smaller
 loop-q-smaller c =
     let f = c.loop-q.reached.seen in
     let k = state c.in-Some.q in
     let near : k < length f = omega arith in
-    subst (λ (g : List Bool). unset g < unset f) (sym c.add.ensures) (falls f k near (c.in-Some.ensures {u = tt}).0)
+    subst (λ (g : List Bool). unset g < unset f) (sym c.add.ensures.found) (falls f k near (c.in-Some.ensures {u = tt}).0)
 
-pub returns : goal.returns
-returns c =
-    let ss = c.args.statements.now in
-    let x = c.args.x in
-    let f = c.loop-q.reached.seen in
-    let z : Closed ss x f = c.in_default.ensures in
-    λ q. (c.loop-q.invariant.sound q, stays ss x f z c.loop-q.invariant.begun q)
+pub returns-clause-exact : goal.returns-clause-exact
+returns-clause-exact c =
+    let r = c.loop-q.reached in λ q. (c.loop-q.invariant.sound q, stays r.statements.now r.register r.seen c.in_default.ensures c.loop-q.invariant.begun q)
