@@ -88,6 +88,7 @@ fn is_padding(b: u8) -> bool
 
 impl Label {
     // The text of a label, as it was written.
+    #[tactic(auto, using(crate::specs::Trims::trim_none))]
     pub fn text(&self) -> &[u8]
         ensures { result.now ≡ spelling self.now }
     {
