@@ -7,7 +7,7 @@ use Rattle.kinds.specs.Refusals.{Ending}
 use Rattle.topl.specs.Lists.{Class}
 use Rattle.topl.specs.Table as T
 use Rattle.topl.specs.Ledger as L
-use Rattle.topl.specs.Ledger.{Ledger, Source, Begins, Feeds, Closes, Draws, path_on, verdict, fresh}
+use Rattle.topl.specs.Ledger.{Ledger, Source, Draws}
 use Rattle.topl.specs.History as H
 use Rattle.topl.specs.History.{Moment, Log, Does, draws_at, History, Whole, made}
 use Rattle.topl.proofs.Lawful.{tested}

@@ -74,6 +74,7 @@ pub fn read_label(bytes: &[u8]) -> Result<(Label, usize), Fault>
 
 impl Label {
     // The text of a label, as it was written.
+    #[tactic(auto, using(crate::specs::Trims::trim_none))]
     pub fn text(&self) -> &[u8]
         ensures { result.now ≡ spelling self.now }
     {

@@ -25,7 +25,7 @@ pub enum Stage<'a> {
     Kept,
 }
 
-// The phase alone.
+// The phase of a stage, without what the watch keeps for it.
 impl From<Stage<'_>> for Phase {
     ghost from_gives = { λ stage phase. phase ≡ phase_of stage };
 

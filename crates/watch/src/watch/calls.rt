@@ -141,7 +141,8 @@ impl<'a, K: Kind> Watch<'a, K> {
         }
     }
 
-    // Where nothing decides, phase and call together say what follows: an event leaves the watch running, and at the end of the list the property is kept.
+    // Where nothing decides, an event leaves the watch running, and at the end of the list the property is kept.
+    // Kept a match on the stage and the call: both say what follows, and the pairs that cannot come are proved unreachable.
     fn go_on(&mut self, asked: Asked) -> Result<Standing, Refusal>
         requires { phase_of self.old.held.stage ≡ Running }
         ensures { (self.new.held ≡ in_stage (rests asked self.old.held.stage) self.old.held) × (result ≡ Ok (stands asked)) × (self.new.rows ≡ self.old.rows) }

@@ -1,5 +1,5 @@
-use Rattle.std.proofs.Common.{◌≡◌, ℕ, suc, ◌+◌, ◌<◌, length, take, slice_index, ◌≢◌, sym, ap, ◌∙◌, arith, rules}
-use Rattle.kinds.specs.Trims.{trim_last, trim_none}
+use Rattle.std.proofs.Common.{◌≡◌, ℕ, suc, ◌+◌, ◌<◌, length, take, slice_index, ◌≢◌, ap, ◌∙◌, arith, rules}
+use Rattle.kinds.specs.Trims.{trim_last}
 use Rattle.kinds.proofs.label.Label.text.Goals as goal
 
 pub returns-in-Some : goal.returns-in-Some
@@ -10,9 +10,3 @@ returns-in-Some c =
     let zeros : (k : ℕ) → i < k → k < length xs → slice_index xs k ≡ 0 = λ k a b. search rules in
     let one : i + 1 ≡ suc i = omega arith in
     ap (λ k. take k xs) one ∙ trim_last xs i (search rules) some zeros
-
-pub returns-in-None : goal.returns-in-None
-returns-in-None c =
-    let xs = c.args.self.now.text in
-    let zeros : (k : ℕ) → k < length xs → slice_index xs k ≡ 0 = λ k l. search rules in
-    sym (trim_none xs zeros)
