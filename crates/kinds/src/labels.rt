@@ -41,16 +41,9 @@ fn spell(text: &[u8]) -> Label
     Label { text: label }
 }
 
-// Whether two labels differ at most in the case of letters.
-#[tactic(auto, using(crate::specs::Trims::class_from, crate::specs::Trims::class_to))]
-fn same_label(a: &Label, b: &Label) -> bool
-    ensures { Decides result (label_class a.now ≡ label_class b.now) }
-{
-    a.text.eq_ignore_ascii_case(&b.text)
-}
-
 // Reads a length and then a text of that length.
-#[tactic(auto, using(crate::specs::Texts::read_fault, crate::specs::Texts::read_long))]
+// Kept apart from `read_label`: there each way out would owe the clauses on meaning too, and `meaning` and `only` stay open at three of them.
+#[tactic(auto, using(crate::specs::Texts::read_fault, crate::specs::Texts::read_long, crate::specs::Texts::read_whole))]
 fn read_text(bytes: &[u8]) -> Result<(Label, usize), Fault>
     ensures { result ≡ label_read bytes.now }
 {
@@ -58,7 +51,7 @@ fn read_text(bytes: &[u8]) -> Result<(Label, usize), Fault>
     let Ok(length @ 1..=16) = usize::try_from(length) else {
         return Err(BAD);
     };
-    let rest = &bytes[count..];
+    let (_, rest) = bytes.split_at(count);
     let Some(text) = rest.get(..length) else {
         return Err(CUT);
     };
@@ -79,20 +72,13 @@ pub fn read_label(bytes: &[u8]) -> Result<(Label, usize), Fault>
     read_text(bytes)
 }
 
-// Whether a byte stands behind a label's text.
-fn is_padding(b: u8) -> bool
-    ensures { result ≡ (b == 0) }
-{
-    b == 0
-}
-
 impl Label {
     // The text of a label, as it was written.
     #[tactic(auto, using(crate::specs::Trims::trim_none))]
     pub fn text(&self) -> &[u8]
         ensures { result.now ≡ spelling self.now }
     {
-        match self.text.iter().rposition(|b| !is_padding(*b)) {
+        match self.text.iter().rposition(|b| *b != 0) {
             Some(last) => &self.text[..=last],
             None => &[],
         }
@@ -131,8 +117,9 @@ impl Kind for Labels {
 
     ghost small = { Prim.search rules };
 
+    #[tactic(auto, using(crate::specs::Trims::class_from, crate::specs::Trims::class_to))]
     fn same(a: &Label, b: &Label) -> bool {
-        same_label(a, b)
+        a.text.eq_ignore_ascii_case(&b.text)
     }
 
     fn nothing() -> Label {

@@ -7,21 +7,21 @@ ghost use Rattle.kinds.specs.Refusals.{text_number};
 #[derive(Clone, Copy, PartialEq, Eq, Debug)]
 pub enum TextReason {
     // a byte fits no form, or the text breaks off; a reserved word stands as a name
-    NoForm,
+    NoForm = 10,
     // something is one too many, or too large
-    TooMuch,
+    TooMuch = 11,
     // a method is not declared, or its name or number is declared twice
-    BadMethod,
+    BadMethod = 12,
     // a label has another count of patterns than the method has parameters
-    OtherArity,
+    OtherArity = 13,
     // a label writes one variable twice
-    WrittenTwice,
+    WrittenTwice = 14,
     // some path of statements reaches a read of a variable that it has not written
-    UnwrittenRead,
+    UnwrittenRead = 15,
     // a statement leaves the state `error`
-    LeavesError,
+    LeavesError = 16,
     // no written statement leaves `start`, or none leads to `error`
-    NoRoute,
+    NoRoute = 17,
 }
 
 impl TextReason {
@@ -29,15 +29,6 @@ impl TextReason {
     pub fn number(self) -> u8
         ensures { result ≡ text_number self }
     {
-        match self {
-            TextReason::NoForm => 10,
-            TextReason::TooMuch => 11,
-            TextReason::BadMethod => 12,
-            TextReason::OtherArity => 13,
-            TextReason::WrittenTwice => 14,
-            TextReason::UnwrittenRead => 15,
-            TextReason::LeavesError => 16,
-            TextReason::NoRoute => 17,
-        }
+        self as u8
     }
 }

@@ -7,29 +7,29 @@ ghost use Rattle.kinds.specs.Refusals.{watch_number};
 #[derive(Clone, Copy, PartialEq, Eq, Debug)]
 pub enum WatchReason {
     // a feed, a draw or a close before any begin
-    NotBegun,
+    NotBegun = 20,
     // a begin after another
-    BegunAlready,
+    BegunAlready = 21,
     // the cap is 0 or over 64
-    BadCap,
+    BadCap = 22,
     // the count of constants differs from the property's
-    OtherConstants,
+    OtherConstants = 23,
     // the board is short or the book is empty
-    SmallBoard,
+    SmallBoard = 24,
     // a call of a declared method has another count of values than its arity
-    OtherArity,
+    OtherArity = 30,
     // the phase is broken
-    IsBroken,
+    IsBroken = 31,
     // the phase is spilled, or becomes so by this call
-    IsSpilled,
+    IsSpilled = 32,
     // the phase is full, or becomes so by this call
-    IsFull,
+    IsFull = 33,
     // the phase is kept
-    IsKept,
+    IsKept = 34,
     // a path is asked and the phase is not broken
-    NotBroken,
+    NotBroken = 40,
     // the path has more steps than the page has bytes
-    SmallPage,
+    SmallPage = 41,
 }
 
 impl WatchReason {
@@ -37,19 +37,6 @@ impl WatchReason {
     pub fn number(self) -> u8
         ensures { result ≡ watch_number self }
     {
-        match self {
-            WatchReason::NotBegun => 20,
-            WatchReason::BegunAlready => 21,
-            WatchReason::BadCap => 22,
-            WatchReason::OtherConstants => 23,
-            WatchReason::SmallBoard => 24,
-            WatchReason::OtherArity => 30,
-            WatchReason::IsBroken => 31,
-            WatchReason::IsSpilled => 32,
-            WatchReason::IsFull => 33,
-            WatchReason::IsKept => 34,
-            WatchReason::NotBroken => 40,
-            WatchReason::SmallPage => 41,
-        }
+        self as u8
     }
 }

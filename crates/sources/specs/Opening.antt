@@ -24,12 +24,12 @@ head_refusal number bytes = cond (nat_lt 65536 (length bytes)) (Some (refuses To
 
 -- What a reader has before it: the events that wait and the ending.
 abbrev pub ahead : {V K : Type 0} → (List ℕ → Result (V × ℕ) Fault) → Journal K → Meaning V
-ahead reads j = means reads j.bytes.now j.place.at
+ahead reads j = means reads j.place.bytes.now j.place.at
 
 -- A reader of these bytes that stands behind an accepted head, so that all that they record waits in it.
 pub record Opened {V K : Type 0} (reads : List ℕ → Result (V × ℕ) Fault) (longest number : ℕ) (bytes : List ℕ) (j : Journal K) : Type 0 where
   pub head : head_refusal number bytes ≡ None
-  pub bytes_are : j.bytes.now ≡ bytes
+  pub bytes_are : j.place.bytes.now ≡ bytes
   pub place_is : j.place.at ≡ 2
   pub holds : Recorded reads bytes 2 (means reads bytes 2).waits (means reads bytes 2).ends
   pub short : ShortRecords reads bytes longest

@@ -7,7 +7,6 @@ pub mod read;
 // A reader of the journal that it was handed, of which it copies nothing.
 #[derive(Drop)]
 pub struct Journal<'a, K> {
-    bytes: &'a [u8],
-    place: Place,
+    place: Place<'a>,
     kind: PhantomData<K>,
 }

@@ -9,11 +9,25 @@ use kinds::refusal::Reason;
 // The greatest id: the return of method 65,535.
 pub const LAST_ID: u32 = 131_071;
 
+// The method that an event of an id calls or returns from.
+pub fn method_of(id: u32) -> u32
+    ensures { result ≡ id / 2 }
+{
+    id / 2
+}
+
+// Whether an event of an id is a return.
+pub fn is_return(id: u32) -> bool
+    ensures { result ≡ is_return id }
+{
+    id % 2 == 1
+}
+
 // How many values an event of an id may carry.
 pub fn most_values(id: u32) -> usize
     ensures { result ≡ most id }
 {
-    if id % 2 == 1 { 1 } else { 5 }
+    if is_return(id) { 1 } else { 5 }
 }
 
 impl<V: Copy> Event<V> {
@@ -68,14 +82,14 @@ impl<V: Copy> Event<V> {
     pub fn method(&self) -> u32
         ensures { result ≡ (says self.now).id / 2 }
     {
-        self.id / 2
+        method_of(self.id)
     }
 
     // Whether the method returns.
     pub fn is_return(&self) -> bool
         ensures { result ≡ is_return (says self.now).id }
     {
-        self.id % 2 == 1
+        is_return(self.id)
     }
 
     // The values that were given, in order.
@@ -107,7 +121,7 @@ pub fn place_of<V: Copy>(nothing: V, id: u32, values: &[V], place: usize) -> V
 fn index_at(id: u32, place: usize) -> Option<usize>
     ensures { result ≡ index_at (is_return id) place }
 {
-    if id % 2 == 1 {
+    if is_return(id) {
         Some(place)
     } else {
         place.checked_sub(1)

@@ -1,13 +1,12 @@
 // Reading a journal: a head, and then records of an id, a count of values and the values.
 ghost use Rattle.std.specs.Prelude.{◌≡◌, ℕ, ◌+◌, ◌*◌, ◌^◌, ◌<◌, ◌≤◌, drop, length, IfOk, Some, None, MatchResult, OnErr};
-ghost use Rattle.std.specs.Fn.{FnReturnsAt};
 ghost use Rattle.kinds.specs.Numbers.{number_read};
 ghost use Rattle.sources.specs.Events.{most};
-ghost use Rattle.sources.specs.Format.{at, event_at, moved, record_at};
+ghost use Rattle.sources.specs.Format.{at, event_at, record_at};
 ghost use Rattle.sources.specs.Lawfulness.{means_lawful};
 ghost use Rattle.sources.specs.Opening.{Opened, ahead, head_refusal};
 ghost use Rattle.sources.specs.Sources.{Next};
-ghost use Rattle.sources.specs.Steps.{event_told, told};
+ghost use Rattle.sources.specs.Steps.{event_told};
 
 use crate::event::Event;
 use crate::event::make::{LAST_ID, most_values};
@@ -16,52 +15,30 @@ use crate::place::{Guard, Place};
 use crate::source::Source;
 use kinds::kind::Kind;
 use kinds::number::read_number;
-use kinds::refusal::{Fault, Layer, Reason, Refusal};
+use kinds::refusal::{Layer, Reason, Refusal};
 use std::marker::PhantomData;
 
 // The most bytes that a journal has.
-const MOST_BYTES: usize = 65_536;
+pub const MOST_BYTES: usize = 65_536;
 
 // The version of the format.
 const VERSION: u8 = 1;
 
-// What a reading finds at the place, which then moves past it; a fault is placed there, and nothing moves.
-// Kept bytes and place as two parameters, each time with the fact that the place is within: the guard borrows the place alone, to put it back on every way out.
-// Kept a closure for each reading: a function by its name "does not fit the bound `Fn` yet", says the checker.
-fn take<V: Copy, R: Fn(&[u8]) -> Result<(V, usize), Fault>>(
-    bytes: &[u8],
-    place: &mut Place,
-    read: R,
-) -> Result<V, Refusal>
-    requires within { place.old.at ≤ length bytes.now }
-    requires callable { R.IsAlwaysCallable read }
-    requires short { (s : _) (r : _) → R.post read s r → IfOk r (λ t. t.1 ≤ length s.now) }
-    ensures tells { (r : _) × FnReturnsAt R.Fn read (drop place.old.at bytes.now) r × (told result place.new.at ≡ moved place.old.at r) }
-    ensures within { place.new.at ≤ length bytes.now }
-{
-    let start = place.at;
-    let (value, count) = read(&bytes[start..]).map_err(|fault| fault.at(start))?;
-    place.at += count;
-    Ok(value)
-}
-
 // The event of an id with as many values, which stand at the place.
 #[tactic(auto, using(crate::proofs::Gathered::one_refused, crate::proofs::Gathered::event_refused))]
 fn take_event<K: Kind>(
-    bytes: &[u8],
-    place: &mut Place,
+    place: &mut Place<'_>,
     id: u32,
     count: usize,
 ) -> Result<Event<K::Value>, Refusal>
-    requires within { place.old.at ≤ length bytes.now }
     requires lawful { (id ≤ 131071) × (count ≤ most id) }
-    ensures tells { event_told result place.new.at ≡ event_at K.Kind.reads bytes.now place.old.at id count }
-    ensures within { place.new.at ≤ length bytes.now }
+    ensures tells { event_told result place.new.at ≡ event_at K.Kind.reads place.old.bytes.now place.old.at id count }
+    ensures same { place.new.bytes ≡ place.old.bytes }
 {
     let mut event = Event::bare(K::nothing(), id);
     // Kept a counted loop: each turn takes one value, and no index is read.
     for _i in 0..count {
-        event.push(take(bytes, place, |b: &[u8]| K::read(b))?);
+        event.push(place.take(|b: &[u8]| K::read(b))?);
     }
     Ok(event)
 }
@@ -88,8 +65,7 @@ impl<'a, K: Kind> Journal<'a, K> {
     {
         check_head(bytes, K::NUMBER)?;
         Ok(Journal {
-            bytes,
-            place: Place { at: 2 },
+            place: Place { bytes, at: 2 },
             kind: PhantomData,
         })
     }
@@ -103,27 +79,25 @@ impl<'a, K: Kind> Journal<'a, K> {
 
     // The record at the reader's place; one that is refused leaves the reader at its first byte.
     fn record(&mut self) -> Result<Event<K::Value>, Refusal>
-        requires { self.old.place.at ≤ length self.old.bytes.now }
-        ensures tells { event_told result self.new.place.at ≡ record_at K.Kind.reads self.old.bytes.now self.old.place.at }
+        ensures tells { event_told result self.new.place.at ≡ record_at K.Kind.reads self.old.place.bytes.now self.old.place.at }
         ensures back { OnErr result (self.new.place.at ≡ self.old.place.at) }
-        ensures same { self.new.bytes ≡ self.old.bytes }
+        ensures same { self.new.place.bytes ≡ self.old.place.bytes }
     {
-        let bytes = self.bytes;
         let start = self.place.at;
         let guard = Guard {
             place: &mut self.place,
             start,
         };
-        let id = take(bytes, guard.place, |b: &[u8]| read_number(b))?;
+        let id = guard.place.take(|b: &[u8]| read_number(b))?;
         let Ok(id @ ..=LAST_ID) = u32::try_from(id) else {
             return Err(Layer::Journal.refusal(Reason::WildId, start));
         };
-        let count = take(bytes, guard.place, |b: &[u8]| read_number(b))?;
+        let count = guard.place.take(|b: &[u8]| read_number(b))?;
         let count = match usize::try_from(count) {
             Ok(count) if count <= most_values(id) => count,
             _ => return Err(Layer::Journal.refusal(Reason::TooManyValues, start)),
         };
-        let event = take_event::<K>(bytes, guard.place, id, count)?;
+        let event = take_event::<K>(guard.place, id, count)?;
         guard.accept();
         Ok(event)
     }
@@ -134,15 +108,15 @@ impl<K: Kind> Source<K> for Journal<'_, K> {
 
     ghost ending = { λ j. (ahead K.Kind.reads j).ends };
 
-    ghost lawful = { λ j. means_lawful K.Kind.reads j.bytes.now j.place.at };
+    ghost lawful = { λ j. means_lawful K.Kind.reads j.place.bytes.now j.place.at };
 
     // A record that is refused leaves the reader at its first byte.
     fn next(&mut self) -> Result<Option<Event<K::Value>>, Refusal>
         ensures hands { Next (ahead K.Kind.reads self.old).waits (ahead K.Kind.reads self.old).ends result (ahead K.Kind.reads self.new).waits (ahead K.Kind.reads self.new).ends }
         ensures back { OnErr result (self.new.place.at ≡ self.old.place.at) }
-        ensures same { self.new.bytes.now ≡ self.old.bytes.now }
+        ensures same { self.new.place.bytes.now ≡ self.old.place.bytes.now }
     {
-        if self.place.at >= self.bytes.len() {
+        if self.place.at >= self.place.bytes.len() {
             return Ok(None);
         }
         Ok(Some(self.record()?))
