@@ -18,6 +18,9 @@ use sources::journal::Journal;
 use sources::source::Source;
 use std::alloc::{AllocError, Global};
 
+// The most bytes that a journal has.
+pub use sources::journal::read::MOST_BYTES;
+
 // Prints values, each after a space, and ends the line.
 fn print_values<K: Shown>(page: &mut Page, values: &[K::Value]) -> Result<(), AllocError>
     ensures { Writes result page.old (ended (map K.Shown.shown values.now)) page.new }

@@ -1,15 +1,15 @@
 // The bytes that a program is to print.
 ghost use Rattle.std.specs.Prelude.{◌≡◌, [], IfSome};
+ghost use Rattle.std.specs.Vec.{vec_allocator};
 ghost use Rattle.day.specs.Lines.{Writes, written};
 
 use std::alloc::{AllocError, Global};
 use std::fmt::Display;
 
-// What is written so far, and where its memory comes from.
+// What is written so far.
 // Kept bytes, not a `String`: a label's text is bytes, which a `String` would take only after a test that they are UTF-8.
 #[derive(Drop)]
 pub(crate) struct Page {
-    heap: Global,
     bytes: Vec<u8>,
 }
 
@@ -19,16 +19,15 @@ impl Page {
         ensures { written result ≡ [] }
     {
         Page {
-            heap,
             bytes: Vec::new(heap),
         }
     }
 
     // Where memory comes from.
     pub(crate) fn heap(&self) -> Global
-        ensures { result ≡ self.now.heap }
+        ensures { result ≡ vec_allocator self.now.bytes }
     {
-        self.heap
+        *self.bytes.allocator()
     }
 
     // Writes some bytes.
@@ -42,7 +41,7 @@ impl Page {
     pub(crate) fn write_fmt<D: Display + Drop>(&mut self, value: D) -> Result<(), AllocError>
         ensures { IfSome (D.output value) (λ text. Writes result self.old text self.new) }
     {
-        let text = String::format(self.heap, value)?;
+        let text = String::format(self.heap(), value)?;
         self.write(text.as_str().as_bytes())
     }
 

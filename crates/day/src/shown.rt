@@ -18,7 +18,8 @@ pub(crate) trait Shown: Kind {
     // What is printed of a value.
     ghost shown: { Self.Value → List ℕ };
 
-    // The name of the kind. Kept a function: clauses see a constant `&str` as a reference (`Bor (List ℕ)`), whose address no impl can give.
+    // The name of the kind.
+    // Kept a function: clauses see a constant `&str` as a reference (`Bor (List ℕ)`), whose address no impl can give.
     fn title() -> &'static str
         ensures { result.now ≡ title };
 

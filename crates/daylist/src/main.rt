@@ -2,13 +2,10 @@
 #![tactic(auto)]
 
 use anyhow::Context;
-use day::listing::listing;
+use day::listing::{MOST_BYTES, listing};
 use day::methods::method_named;
 use std::env;
 use std::io::{Read, Write};
-
-// One byte more than a journal may have, so that a longer one is told from it.
-const MOST_BYTES: u64 = 65_537;
 
 fn main(rt: HostRuntime) -> anyhow::Result<()> {
     run(&rt)
@@ -29,7 +26,10 @@ fn run(rt: &HostRuntime) -> anyhow::Result<()> {
     let methods = methods(rt)?;
     let chosen = (!methods.is_empty()).then_some(methods.as_slice());
     let mut bytes = Vec::new(rt.alloc());
-    rt.stdin().take(MOST_BYTES).read_to_end(&mut bytes)?;
+    // One byte more than a journal may have, so that a longer one is told from it.
+    rt.stdin()
+        .take(MOST_BYTES as u64 + 1)
+        .read_to_end(&mut bytes)?;
     let text = listing(rt.alloc(), &bytes, chosen)?;
     rt.stdout().write_all(&text)?;
     Ok(())

@@ -7,7 +7,7 @@ pub mod table;
 pub(crate) const MOST_METHODS: usize = 32;
 
 // Some methods; the numbers past the count mean nothing.
-// Kept an array and a count: the table is Copy, and an ArrayVec is not.
+// Kept an array and a count: this public type is `Copy`, which its callers may use, and an `ArrayVec` is not.
 #[derive(Clone, Copy)]
 pub struct Methods {
     numbers: [u16; MOST_METHODS],

@@ -15,7 +15,7 @@ use engine::table::Method;
 use kinds::kind::Kind;
 use kinds::refusal::{Layer, Reason, Refusal};
 use kinds::watch_reason::WatchReason;
-use sources::event::make::{LAST_ID, most_values};
+use sources::event::make::{LAST_ID, is_return, method_of, most_values};
 
 impl<'a, K: Kind> Watch<'a, K> {
     // The refusal for a reason, placed at the judged count.
@@ -72,7 +72,7 @@ impl<'a, K: Kind> Watch<'a, K> {
         if count > most_values(id) {
             return Err(self.refuse(Reason::TooManyValues));
         }
-        if id % 2 == 0 && other_arity(methods, id, count) {
+        if !is_return(id) && other_arity(methods, id, count) {
             return Err(self.refuse(WatchReason::OtherArity));
         }
         Ok(())
@@ -85,5 +85,5 @@ fn other_arity(methods: &[Method], id: u32, count: usize) -> bool
 {
     methods
         .iter()
-        .any(|m| id / 2 == m.number && count != m.arity)
+        .any(|m| method_of(id) == m.number && count != m.arity)
 }
