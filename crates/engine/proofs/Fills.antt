@@ -1,19 +1,19 @@
 -- How a row fills, and its entries with it.
-use Rattle.std.proofs.Common.{◌≡◌, ℕ, suc, ◌+◌, ◌<◌, ◌≤◌, Bool, true, false, cond, ◌&&◌, ◌||◌, List, [], ◌∷◌, ◌++◌, length, get_or, drop, Ok, Err, Result, vec_items, vec_len, sym, refl, ap, ◌∙◌, subst, inl, inr, ⊎_elim, true≢false, append_assoc, arith}
+use Rattle.std.proofs.Common.{◌≡◌, ℕ, ◌<◌, ◌≤◌, true, false, ◌||◌, List, [], ◌∷◌, ◌++◌, length, get_or, Ok, Err, Result, vec_items, sym, refl, ap, ◌∙◌, subst, inl, inr, ⊎_elim, true≢false, append_assoc, arith}
 use Rattle.std.proofs.lemmas.List.{append-nil, get_or_append_left, get_or_push}
-use Rattle.std.proofs.lemmas.Bool.{or_right, or_from, cases_lt, cond-false, ne_eqb, and_right}
+use Rattle.std.proofs.lemmas.Bool.{or_right, or_from, cases_lt, ne_eqb}
 use Rattle.std.specs.Result.{is_err}
 use Rattle.topl.specs.Lists.{Class, holds}
 use Rattle.topl.specs.Table as T
-use Rattle.topl.specs.Runs.{Configuration, Registers, World, Reach, first_configuration, alikeᶜ, has_come, quiet, skips}
-use Rattle.topl.specs.Rows.{Filled, landed}
+use Rattle.topl.specs.Runs.{Configuration, Registers, World, Reach, first_configuration, alikeᶜ}
+use Rattle.topl.specs.Rows.{Filled}
 use Rattle.topl.specs.Deciding.{any_error}
 use Rattle.topl.proofs.Loops.{filled_added, filled_held, filled_spilled, error_append}
 use Rattle.engine.specs.declared.entry.Entry.{Entry}
 use Rattle.engine.specs.declared.grid.Grid as G
 use Rattle.engine.specs.declared.row.Crowded.{Crowded}
 use Rattle.engine.specs.Trails.{steps_to, steps_by, room_of}
-use Rattle.engine.specs.Fronts.{row_at, count_at, entries_at, Grid, grid, Room, Spares, Comes, Arrives}
+use Rattle.engine.specs.Fronts.{row_at, count_at, entries_at, Grid, grid, Room, Comes, Arrives}
 use Rattle.engine.specs.Grids.{grid_of}
 use Rattle.engine.specs.Fills.{Tracked, Tracks, Fits, Grows, Brought, Brings, Safe}
 use Rattle.engine.proofs.Fronts.{length_row_at, length_entries}

@@ -72,11 +72,11 @@ module _ {X : Type 0} (xs rs : List X) (at n i k : ℕ) (a : at + n ≤ length x
       sym (drop-append-le (i + k) (take n (drop at xs)) (drop n (drop at xs)) lt) ∙ (ap (drop (i + k)) (take-append-drop n (drop at xs)) ∙ drop-drop (i + k) at xs) in
       simp (append_assoc, x1, x2, take-add, add_assoc)
 
--- a board that was lent, with eight registers written
-pub board_put : {X Z : Type 0} (v : Vec X Z) (lent back rs : List X) (at : ℕ) → lent ≡ vec_items v → back ≡ paste lent at rs (length rs) → at + 8 ≤ length (vec_items v) → length rs ≡ 8 → vec_items (with_items v back) ≡ paste (vec_items v) at rs 8
-board_put v lent back rs at e f l n =
-    let g : back ≡ paste (vec_items v) at rs 8 = f ∙ (ap (λ (z : ℕ). paste lent at rs z) n ∙ ap (λ z. paste z at rs 8) e) in
-    with_items_is v back (ap length g ∙ (length-paste (vec_items v) at rs 8 l (omega arith) ∙ sym v.ok.0)) ∙ g
+-- a board that was lent, with some values written
+pub board_put : {X Z : Type 0} (v : Vec X Z) (lent back rs : List X) (at : ℕ) → lent ≡ vec_items v → back ≡ paste lent at rs (length rs) → at + length rs ≤ length (vec_items v) → vec_items (with_items v back) ≡ paste (vec_items v) at rs (length rs)
+board_put v lent back rs at e f l =
+    let g : back ≡ paste (vec_items v) at rs (length rs) = f ∙ ap (λ z. paste z at rs (length rs)) e in
+    with_items_is v back (ap length g ∙ (length-paste (vec_items v) at rs (length rs) l (omega arith) ∙ sym v.ok.0)) ∙ g
 
 -- what a write of k values at a place leaves, and where
 module _ {X : Type 0} (xs rs : List X) (at k : ℕ) (h : at + k ≤ length xs) (e : length rs ≡ k) where
@@ -135,7 +135,7 @@ module _ {V : Type 0} (class : V → Class) where
     inner : slot * (8 * cap) + 8 * cap ≤ 40 * cap
     inner = let h : slot + 1 ≤ 5 = omega arith in omega (arith, mul-le-mul_right (8 * cap) h, add-mul slot 1 (8 * cap))
 
-    pub fits_in : slot * (8 * cap) + 8 * count_at g.front slot + 8 ≤ length g.rows
+    fits_in : slot * (8 * cap) + 8 * count_at g.front slot + 8 ≤ length g.rows
     fits_in = let a = inner in let b = R.1 in omega arith
 
     few : count_at g.front slot ≤ 64

@@ -1,7 +1,6 @@
 -- What is held before the first event.
-use Rattle.std.proofs.Common.{◌≡◌, ℕ, ◌+◌, ◌*◌, ◌%◌, ◌<◌, ◌≤◌, List, [], ◌∷◌, ◌++◌, map, length, get_or, take, drop, set, sym, refl, ap, ◌∙◌, subst, ap₂, arith, Vec, vec_items, vec_len}
+use Rattle.std.proofs.Common.{◌≡◌, ℕ, ◌+◌, ◌*◌, ◌%◌, ◌<◌, ◌≤◌, List, [], ◌∷◌, ◌++◌, map, length, get_or, take, drop, set, sym, refl, ap, ◌∙◌, subst, ap₂, arith}
 use lib.Seq.{paste}
-use Rattle.std.specs.Vec.{with_items}
 use Rattle.std.proofs.lemmas.List.{get_or-map, drop_more, length-map, map-set}
 use Rattle.topl.specs.Lists.{Class, holds, apart}
 use Rattle.topl.specs.Table as T
@@ -18,7 +17,7 @@ use Rattle.engine.specs.Fills.{Tracked}
 use Rattle.engine.specs.Judging.{Held}
 use Rattle.engine.proofs.Fits.{class_read}
 use Rattle.engine.proofs.Trails.{steps_none}
-use Rattle.engine.proofs.Fronts.{board_put, added_here, added_room}
+use Rattle.engine.proofs.Fronts.{added_here}
 
 -- one constant more, in its register n
 pub sets_more : {V : Type 0} (class : V → Class) (cs : List Register) (vs registers : List V) (j n : ℕ) (r : Register) (x : V) → j < length cs → length cs ≡ length vs → n ≡ number r → r ≡ get_or cs j r → x ≡ get_or vs j x →
@@ -52,9 +51,6 @@ module _ {V : Type 0} (class : V → Class) (cap : ℕ) (F G : Front) (rows regi
   first_at = ap (λ (z : ℕ). paste rows (0 * (8 * cap) + 8 * z) registers 8) (B.2 0)
 
   module _ (board : List V) (put : board ≡ paste rows (0 * (8 * cap) + 8 * 0) registers 8) where
-    first_room : Room cap (on board)
-    first_room = subst (λ z. Room cap (on z)) (first_at ∙ sym put) (added_room class cap 0 0 0 (grid F rows es used) G registers es used (omega arith) bare_room (let z = B.2 0 in omega arith) eight A (omega arith) (omega arith))
-
     first_row : row_at class cap (on board) 0 ≡ configuration class 0 registers ∷ []
     first_row =
         ap (λ z. row_at class cap (on z) 0) (put ∙ sym first_at)
@@ -81,35 +77,29 @@ module _ {V : Type 0} (class : V → Class) (cap : ℕ) (F G : Front) (rows regi
           let d : get_or (row_at class cap (on board) 0) i (first_configuration []) ≡ first_configuration k = ap (λ x. get_or x i (first_configuration [])) row_is ∙ ap (λ (x : ℕ). get_or (first_configuration k ∷ []) x (first_configuration [])) n in
           subst (λ x. Reach P k (so_far []) 0 x (steps_to es (get_or (entries_at G 0) i 0))) (sym d) (subst (Reach P k (so_far []) 0 (first_configuration k)) (sym s) at_start)
 
--- a configuration in `start` was added to a bare front, at position 0, and its registers written to the board v
-module _ {V Z : Type 0} (class : V → Class) (cap : ℕ) (F G : Front) (at : ℕ) (v : Vec V Z) (lent back registers : List V) (es : List Entry) (used : ℕ) (zero_at : at ≡ 0) (B : Bare F) (A : Added F G at 0 0)
-    (is : lent ≡ vec_items v) (put : back ≡ stored lent (at * (8 * cap) + 8 * 0) registers) (some : 1 ≤ cap) (few : cap ≤ 64) (long : 40 * cap ≤ vec_len v) (eight : length registers ≡ 8) (one : used ≡ 1) where
+-- a configuration in `start` was added to a bare front, at position 0, and its registers were written to the board
+module _ {V : Type 0} (class : V → Class) (cap : ℕ) (F G : Front) (at : ℕ) (rows board registers : List V) (es : List Entry) (used : ℕ) (zero_at : at ≡ 0) (B : Bare F) (A : Added F G at 0 0)
+    (put : board ≡ stored rows (at * (8 * cap) + 8 * 0) registers) (some : 1 ≤ cap) (few : cap ≤ 64) (long : 40 * cap ≤ length rows) (eight : length registers ≡ 8) (one : used ≡ 1) where
   abbrev pub opened : Grid V
-  opened = grid G (vec_items (with_items v back)) es used
+  opened = grid G board es used
 
   first : Added F G 0 0 0
   first = subst (λ (k : ℕ). Added F G k 0 0) zero_at A
 
-  long' : 40 * cap ≤ length (vec_items v)
-  long' = let a = v.ok.0 in omega arith
-
-  board : vec_items (with_items v back) ≡ paste (vec_items v) (0 * (8 * cap) + 8 * 0) registers 8
-  board = let l = long' in board_put v lent back registers (0 * (8 * cap) + 8 * 0) is (subst (λ (k : ℕ). back ≡ stored lent (k * (8 * cap) + 8 * 0) registers) zero_at put) (omega arith) eight
-
-  pub opened_room : Room cap opened
-  opened_room = first_room class cap F G (vec_items v) registers es used B first few some long' eight (omega (arith, one)) _ board
+  here : board ≡ paste rows (0 * (8 * cap) + 8 * 0) registers 8
+  here = subst (λ (k : ℕ). board ≡ stored rows (k * (8 * cap) + 8 * 0) registers) zero_at put ∙ ap (λ (z : ℕ). paste rows (0 * (8 * cap) + 8 * 0) registers z) eight
 
   -- position 0 is the only one
   module _ (P : T.Table) (k : Registers) (e : map class registers ≡ k) where
     only_held : (q : ℕ) → q ≤ 0 → Held class cap opened P k (so_far []) q
     only_held q l =
         let z : 0 ≡ q = omega arith in
-        subst (λ (x : ℕ). Held class cap opened P k (so_far []) x) z (first_held class cap F G (vec_items v) registers es used B first few some long' eight (omega (arith, one)) _ board P k e)
+        subst (λ (x : ℕ). Held class cap opened P k (so_far []) x) z (first_held class cap F G rows registers es used B first few some long eight (omega (arith, one)) board here P k e)
 
     only_tracked : (q : ℕ) → q ≤ 0 → Tracked class cap P k (so_far []) q opened (q % 5)
     only_tracked q l =
         let z : 0 ≡ q = omega arith in
-        subst (λ (x : ℕ). Tracked class cap P k (so_far []) x opened (x % 5)) z (first_tracked class cap F G (vec_items v) registers es used B first few some long' eight (omega (arith, one)) _ board P k e)
+        subst (λ (x : ℕ). Tracked class cap P k (so_far []) x opened (x % 5)) z (first_tracked class cap F G rows registers es used B first few some long eight (omega (arith, one)) board here P k e)
 
     pub opened_follows : ((q : ℕ) → q ≤ 0 → Held class cap opened P k (so_far []) q) × ((q : ℕ) → q ≤ 0 → Tracked class cap P k (so_far []) q opened (q % 5)) × (used ≡ sum 1 (count P k (so_far [])))
     opened_follows = (only_held, only_tracked, let a : count P k (so_far []) 0 ≡ 1 = ap length (alone P k) in omega (arith, one))

@@ -8,7 +8,7 @@ use crate::entry::Entry;
 pub const MOST_ENTRIES: usize = 16_384;
 
 // The first `used` entries count. Entry 0 is the start; every other comes after its parent.
-// Kept a count beside entries that name their parents by number: the book is handed over, and nothing is allocated afterwards.
+// Kept a count of the entries in use, which name their parents by number: the vector is handed over at its full length, and nothing is allocated or freed afterwards.
 #[derive(Drop)]
 pub struct Book {
     pub(crate) entries: Vec<Entry>,
@@ -42,7 +42,7 @@ impl Book {
     }
 
     // One entry more, if there is room: its number; else its parent's.
-    // Kept a number in both cases: its one caller needs one for the front, and the deciding rule refuses the position where the book is full.
+    // Kept a number in both cases, not an Option: its one caller gives the front an entry either way, and a position that the book has no room for is refused later.
     pub(crate) fn enter(&mut self, from: Entry) -> u16
         requires { from.parent < self.old.used }
         ensures { Enters self.old.entries.items self.old.used from self.new.entries.items self.new.used result }

@@ -62,7 +62,7 @@ fn implied_by(any: &[Matcher; 1]) -> Numbered<'_>
 }
 
 // A configuration comes to a position: told where its state is `error`; noted where there are more than the position may have.
-// Kept the bound on the entry in its terms, as in the moves below: it is one on the book, which changes while the entry is held.
+// Kept the bound on the entry as a `requires`, here and in the moves below: it is against the book, which grows while the entry is held.
 fn land<K: Kind>(
     grid: &mut Grid<K::Value>,
     slot: Slot,

@@ -6,8 +6,8 @@ use crate::entry::Entry;
 use crate::slot::Slot;
 
 // Sixty-four places for each of five positions, of which the first `counts` are in use; whether more configurations came than may be.
-// Kept two arrays in step: a row's states are searched as one slice, and the watch allocates nothing once it is made.
-// Kept a flag for the spill: a run to `error` is still sought after it, and decides before it.
+// Kept two arrays in step: the search looks at a row's states alone, as one slice, and an array of pairs would hand it the entries too.
+// Kept a flag for the spill, not an early return: moves that are still to be tried may reach `error`, which decides first.
 #[derive(Clone, Copy)]
 pub struct Front {
     pub states: [u8; 320],
@@ -31,7 +31,7 @@ pub(crate) struct Mark {
 }
 
 // What a position is once it is filled; where `error` is reached, by which step from which entry.
-// Kept one enum: a Result would need a second one for its two reasons, and its reader still tells three answers apart.
+// Kept one enum of three answers: a Result would need a second enum for its two reasons, and its one reader would match the same three cases.
 #[derive(Clone, Copy)]
 pub enum Filling {
     Broken(Entry),
@@ -47,7 +47,7 @@ pub struct Breach {
 }
 
 // What the deciding rule comes to.
-// Kept an enum of answers, which `judge` hands on by hand: definitions give what each of them means.
+// Kept `GoesOn` among the answers: the deciding rule and its readers name all four, so a Result would only part them for `judge` to use `?`.
 #[derive(Clone, Copy)]
 pub enum Ruling {
     Breaks(Breach),
