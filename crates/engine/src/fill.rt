@@ -1,5 +1,6 @@
 // What the moves from earlier positions bring to one position.
 ghost use Rattle.std.specs.Prelude.{◌≡◌, ℕ, ◌+◌, ◌-◌, ◌%◌, ◌<◌, ◌≤◌, List, [], ◌∷◌, map, ◌≢◌};
+ghost use Rattle.std.specs.List.{list_all};
 ghost use Rattle.topl.specs.Lists.{each, ◌∈◌};
 ghost use Rattle.topl.specs.Table.{Event as Happening, Table as TheTable, numbered, implied};
 ghost use Rattle.topl.specs.Runs.{Registers, World, Reach, quiet, calm, calms, fares, lands, skips, moves};
@@ -34,7 +35,6 @@ const IMPLIED: u8 = 65;
 fn written_at(i: usize, t: &Statement) -> Numbered<'_>
     requires { i < 64 }
     ensures number { result.number ≡ i + 1 }
-    ensures are { result.events.now ≡ t.now.events.items }
     ensures stands { stated result ≡ statement t.now }
 {
     // Kept `as`: there are at most 64 statements, so `try_from` would have an error case that cannot come.
@@ -50,7 +50,6 @@ fn written_at(i: usize, t: &Statement) -> Numbered<'_>
 // Kept the matcher as a parameter: as a constant the checker refuses it (`unsupported-static: in a constant, a borrow of a value that holds a struct with a ghost field ..`).
 fn implied_by(any: &[Matcher; 1]) -> Numbered<'_>
     ensures number { result.number ≡ 65 }
-    ensures are { result.events.now ≡ any.now }
     ensures stands { any.now ≡ Any ∷ [] → stated result ≡ implied }
 {
     Numbered {
@@ -101,18 +100,25 @@ fn is_calm<K: Kind>(
     }
 }
 
+// Do all written statements that leave the state let a skip go on?
+fn are_written_calm<K: Kind>(scene: &Scene<'_, K::Value>, c: &Configuration<K::Value>) -> bool
+    ensures { (P : TheTable) (w : World) → Watched K.Kind.class scene.now P w
+        → result ≡ list_all (λ t. calms w scene.now.base (stands_for K.Kind.class c.now) (0, statement t)) scene.now.statements.now }
+{
+    scene.statements.iter().all(
+        |t| -> bool
+            ensures { (P : TheTable) (w : World) → Watched K.Kind.class scene.entry.now P w
+                → result ≡ calms w scene.entry.now.base (stands_for K.Kind.class c.entry.now) (0, statement t.now) }
+        { t.source != c.state || is_calm::<K>(scene, &t.events, c) },
+    )
+}
+
 // Do all statements that leave the state let a skip go on?
 fn is_quiet<K: Kind>(scene: &Scene<'_, K::Value>, c: &Configuration<K::Value>) -> bool
     ensures { (P : TheTable) (w : World) → Watched K.Kind.class scene.now P w
         → result ≡ quiet w scene.now.base (stands_for K.Kind.class c.now) (numbered P) }
 {
-    let written = scene.statements.iter().all(
-        |t| -> bool
-            ensures { (P : TheTable) (w : World) → Watched K.Kind.class scene.entry.now P w
-                → (n : ℕ) → result ≡ calms w scene.entry.now.base (stands_for K.Kind.class c.entry.now) (n, statement t.now) }
-        { t.source != c.state || is_calm::<K>(scene, &t.events, c) },
-    );
-    written && (c.state != START || is_calm::<K>(scene, implied_by(&[Matcher::Any]).events, c))
+    are_written_calm::<K>(scene, c) && (c.state != START || is_calm::<K>(scene, &[Matcher::Any], c))
 }
 
 // What one statement brings from a configuration at the scene's first position to the position at the end of a way.

@@ -6,7 +6,7 @@ use Rattle.engine.specs.Views.{stated}
 use Rattle.engine.specs.Trails.{steps_by}
 use Rattle.engine.specs.Fronts.{configuration, stands_for}
 use Rattle.engine.specs.Fills.{Brings}
-use Rattle.engine.proofs.Sound.{span_is, matchers_are}
+use Rattle.engine.proofs.Matchers.{span_is, matchers_are}
 use Rattle.engine.proofs.Fills.{brings_none}
 use Rattle.engine.proofs.fill.step_statement.Goals as goal
 
@@ -23,13 +23,13 @@ returns-in-Passes-clause-brings g c P k w W m r =
     let long = span_is t.source t.target t.events.now t.some in
     let e = c.if-t-way.false in
     let n : base + span T ≡ p = omega arith in
-    let regs = map class c.attempt_statement.new.registers in
+    let regs = map class c.in-Passes.registers in
     let next = c.new-next in
     let is = ap₂ (configuration class) (sym next.ensures.state) (sym next.ensures.registers) in
     let h = c.in-Passes.ensures (drop base w.events) W.events ∙ ap (λ ms. fares ms d.registers (drop base w.events)) (sym (matchers_are t.source t.target t.events.now t.some)) in
     let move = onward r (pass (t.number, T) regs (m, c.if-t-c.false) (sym h)) in
     let path = steps_by (vec_items s.book.entries) (record { parent = at.entry; step = t.number }) in
-    let r' = subst (λ x. Reach P k w p x path) is (subst (λ (z : ℕ). Reach P k w z (configuration class t.target c.attempt_statement.new.registers) path) n move) in
+    let r' = subst (λ x. Reach P k w p x path) is (subst (λ (z : ℕ). Reach P k w z (configuration class t.target c.in-Passes.registers) path) n move) in
     subst (λ z. Brings class c.args.way.slot.at P k w p s c.land.new.grid z c.land.result) (sym (lands_passes w base d (t.number, T) p c.if-t-c.false n regs h ∙ ap (λ x. x ∷ []) is)) (c.land.ensures.brings P k w p r')
 
 pub returns-in-Fails-clause-brings : goal.returns-in-Fails-clause-brings
