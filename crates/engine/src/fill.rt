@@ -92,9 +92,8 @@ fn is_calm<K: Kind>(
     ensures { (es : List Happening) → Seen K.Kind.class scene.now.events.now es
         → result ≡ calm (mode_of scene.now.mode) (fares (map matcher matchers.now) (map K.Kind.class c.now.registers) es) }
 {
-    let mut registers = c.registers;
-    match attempt_statement::<K>(scene.events, matchers, &mut registers) {
-        Outcome::Passes => false,
+    match attempt_statement::<K>(scene.events, matchers, c.registers) {
+        Outcome::Passes(_) => false,
         Outcome::Fails => true,
         Outcome::Hangs => scene.mode.lets_hang(),
     }
@@ -144,13 +143,12 @@ fn step_statement<K: Kind>(
     if t.events.len() != way.distance {
         return Ok(());
     }
-    let mut registers = c.registers;
     let from = Entry {
         parent: at.entry,
         step: t.number,
     };
-    match attempt_statement::<K>(scene.events, t.events, &mut registers) {
-        Outcome::Passes => {
+    match attempt_statement::<K>(scene.events, t.events, c.registers) {
+        Outcome::Passes(registers) => {
             let next = Configuration::new(t.target, registers);
             land::<K>(grid, way.slot, from, &next)
         }

@@ -65,10 +65,10 @@ pub struct Numbered<'a> {
     ghost few: { length events.now ≤ 4 },
 }
 
-// How a statement fares on the events that come next.
+// How a statement fares on the events that come next: where it passes, with the registers that it leaves.
 #[derive(Clone, Copy)]
-pub enum Outcome {
-    Passes,
+pub enum Outcome<V> {
+    Passes([V; 8]),
     Fails,
     Hangs,
 }
