@@ -1,6 +1,6 @@
 pub mod Fits
 pub mod Attempts
-pub mod Sound
+pub mod Matchers
 pub mod Trails
 pub mod Searches
 pub mod Fronts

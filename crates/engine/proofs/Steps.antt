@@ -56,6 +56,10 @@ module _ (P : T.Table) (w : World) (q : ℕ) (d : Configuration) (p : ℕ) where
     pub steps_error : (j : G.Grid V) (i : ℕ) (x : Entry) → Brings class slot P k w p g j (brought_by i) (Err x) → Brings class slot P k w p g j (landed p (moves P w q d)) (Err x)
     steps_error j i x A = (ap any_error (rest i) ∙ error_early (brought_by i) (landed p (passing w q d (drop i (T.numbered P)))) A.0, A.1)
 
+-- positions fewer than five apart have places of their own
+pub rows_apart : (q p : ℕ) → q < p → p ≤ q + 4 → q % 5 ≡ p % 5 → ⊥
+rows_apart q p l near e = omega arith
+
 -- what the moves from the configurations of a position bring, one by one
 module _ (P : T.Table) (w : World) (q p : ℕ) {V : Type 0} (class : V → Class) (g : G.Grid V) (source : ℕ) where
   -- what the first of them bring to p
@@ -112,23 +116,21 @@ module _ (P : T.Table) (w : World) (base p : ℕ) {V : Type 0} (class : V → Cl
   brought_to q = incoming P w (λ q. row_at class g.cap (grid_of g) (q % 5)) p base (q - base)
 
   module _ (k : Registers) where
-    -- one position more, over n events
-    pub rows_more : (h j : G.Grid V) → Safe (p % 5) g h (Ok tt) → (q : ℕ) → base ≤ q → q < p → p ≤ base + 4 → (b n slot : ℕ) → b ≡ q → b + n ≡ p → slot ≡ p % 5 → (r : Result (Unit {0}) Entry) → Tracks class P k w q g (q % 5) →
+    -- one position more
+    pub rows_more : (h j : G.Grid V) → Safe (p % 5) g h (Ok tt) → (q : ℕ) → base ≤ q → q < p → p ≤ base + 4 → (b : ℕ) → b ≡ q → (r : Result (Unit {0}) Entry) → Tracks class P k w q g (q % 5) →
         Brings class (p % 5) P k w p g h (brought_to q) (Ok tt) →
-        (Tracks class P k w b h (b % 5) → Brings class slot P k w (b + n) h j (each (λ c. landed (b + n) (moves P w b c)) (row_at class h.cap (grid_of h) (b % 5))) r) → Brings class (p % 5) P k w p g j (brought_to (q + 1)) r
-    rows_more h j S q low l near b n slot eb en es r T A step =
+        (Tracks class P k w b h (b % 5) → Brings class (p % 5) P k w p h j (each (λ c. landed p (moves P w b c)) (row_at class h.cap (grid_of h) (b % 5))) r) → Brings class (p % 5) P k w p g j (brought_to (q + 1)) r
+    rows_more h j S q low l near b eb r T A step =
         let row : ℕ → List Configuration = λ q. row_at class g.cap (grid_of g) (q % 5) in
         let five : q % 5 < 5 = omega arith in
-        let ne : q % 5 ≡ p % 5 → ⊥ = λ z. omega arith in
+        let ne = rows_apart q p l (omega arith) in
         let same = A.1.other (q % 5) five ne in
         let t = tracks_kept class P k w q g h (q % 5) five S.cap same (S.spares (q % 5) ne) A.1.kept T in
         let B = step (subst (λ (z : ℕ). Tracks class P k w z h (z % 5)) (sym eb) t) in
         let now : row_at class h.cap (grid_of h) (b % 5) ≡ row q = ap (λ (z : ℕ). row_at class h.cap (grid_of h) (z % 5)) eb ∙ (ap (λ (z : ℕ). row_at class z (grid_of h) (q % 5)) S.cap ∙ same) in
-        let B₁ = subst (λ z. Brings class slot P k w (b + n) h j z r) (each_same P w en eb now) B in
-        let B₂ = subst (λ (z : ℕ). Brings class slot P k w z h j (each (λ c. landed p (moves P w q c)) (row q)) r) en B₁ in
-        let B₃ = subst (λ (z : ℕ). Brings class z P k w p h j (each (λ c. landed p (moves P w q c)) (row q)) r) es B₂ in
+        let B₁ = subst (λ z. Brings class (p % 5) P k w p h j z r) (each_same P w p eb now) B in
         subst (λ z. Brings class (p % 5) P k w p g j z r) (sym (incoming_more P w row p base (q - base) q (q + 1 - base) (omega arith) (omega arith)))
-        (brings_on class (p % 5) P k w p g h j S.cap (brought_to q) (each (λ c. landed p (moves P w q c)) (row q)) r A B₃)
+        (brings_on class (p % 5) P k w p g h j S.cap (brought_to q) (each (λ c. landed p (moves P w q c)) (row q)) r A B₁)
 
     -- an error from the first is one from all
     pub rows_error : (j : G.Grid V) (q : ℕ) (x : Entry) → q ≤ p → Brings class (p % 5) P k w p g j (brought_to q) (Err x) → Brings class (p % 5) P k w p g j (brought_to p) (Err x)

@@ -8,10 +8,8 @@ use Rattle.topl.specs.Lists.{◌∈◌}
 use Rattle.topl.specs.Table as T
 use Rattle.topl.specs.Runs.{Configuration, Mode, World, calm, calms, fares, quiet}
 use Rattle.topl.proofs.Moves as M
-use Rattle.engine.specs.declared.table.Matcher.{Matcher}
-use Rattle.engine.specs.declared.table.Matcher.TheVariants.{Any}
 use Rattle.engine.specs.declared.table.Statement.{Statement}
-use Rattle.engine.specs.Views.{matcher, statement}
+use Rattle.engine.specs.Views.{statement}
 
 number_at : (n : ℕ) (ts : List T.Statement) (i : ℕ) (d : ℕ × T.Statement) → i < length ts → (get_or (T.count_from n ts) i d).0 ≡ n + i
 number_at n [] i d l = absurd (omega arith)
@@ -68,6 +66,6 @@ module _ (w : World) (p : ℕ) (c : Configuration) (P : T.Table) (ts : List Stat
   pub quiet_away : a ≡ true → (c.state ≡ 0 → ⊥) → not (eqb c.state 0) ≡ quiet w p c (T.numbered P)
   quiet_away h n = ap not (ne_eqb c.state 0 n) ∙ (sym (ap₂ ◌&&◌ h (M.calms_away w p c (65, T.implied) (λ z. n (sym z)))) ∙ quiet_is)
 
-  pub quiet_here : a ≡ true → c.state ≡ 0 → (mode : Mode) → w.mode ≡ mode → (b : Bool) (ms : List Matcher) → ms ≡ Any ∷ [] → b ≡ calm mode (fares (map matcher ms) c.registers (drop p w.events)) → b ≡ quiet w p c (T.numbered P)
-  quiet_here h n mode m b ms i k =
-      k ∙ (ap₂ (λ x y. calm x (fares (map matcher y) c.registers (drop p w.events))) (sym m) i ∙ sym (M.calms_here w p c (65, T.implied) (sym n)) ∙ (ap (λ x. x && calms w p c (65, T.implied)) (sym h) ∙ quiet_is))
+  pub quiet_here : a ≡ true → c.state ≡ 0 → (mode : Mode) → w.mode ≡ mode → (b : Bool) → b ≡ calm mode (fares (T.any_event ∷ []) c.registers (drop p w.events)) → b ≡ quiet w p c (T.numbered P)
+  quiet_here h n mode m b k =
+      k ∙ (ap (λ x. calm x (fares (T.any_event ∷ []) c.registers (drop p w.events))) (sym m) ∙ sym (M.calms_here w p c (65, T.implied) (sym n)) ∙ (ap (λ x. x && calms w p c (65, T.implied)) (sym h) ∙ quiet_is))

@@ -49,7 +49,7 @@ abbrev pub Seen : {V : Type 0} → (V → Class) → List (Witnessed V) → List
 Seen class xs es = AllZip (Shown class) xs es
 
 -- the outcome, with the registers that it leaves
-abbrev pub told : Outcome → R.Registers → R.Outcome
-told Passes s = R.passes s
-told Fails s = R.fails
-told Hangs s = R.hangs
+abbrev pub told : {V : Type 0} → (V → Class) → Outcome V → R.Outcome
+told class (Passes xs) = R.passes (map class xs)
+told class Fails = R.fails
+told class Hangs = R.hangs

@@ -63,23 +63,23 @@ fn write_matcher<K: Kind>(registers: &mut [K::Value; 8], event: &Witnessed<K::Va
     }
 }
 
-// How the matchers of a statement fare on some events, from the first on. Where they pass, the registers are then those after their writes.
+// How the matchers of a statement fare on some events, from the first on.
 pub(crate) fn attempt_statement<K: Kind>(
     events: &[Witnessed<K::Value>],
     matchers: &[Matcher],
-    registers: &mut [K::Value; 8],
-) -> Outcome
+    mut registers: [K::Value; 8],
+) -> Outcome<K::Value>
     ensures { (es : List Happening) → Seen K.Kind.class events.now es
-        → told result (map K.Kind.class registers.new) ≡ fares (map matcher matchers.now) (map K.Kind.class registers.old) es }
+        → told K.Kind.class result ≡ fares (map matcher matchers.now) (map K.Kind.class registers) es }
 {
     for (j, matcher) in matchers.iter().enumerate() {
         let Some(event) = events.get(j) else {
             return Outcome::Hangs;
         };
-        if !meets_matcher::<K>(registers, event, matcher) {
+        if !meets_matcher::<K>(&registers, event, matcher) {
             return Outcome::Fails;
         }
-        write_matcher::<K>(registers, event, matcher);
+        write_matcher::<K>(&mut registers, event, matcher);
     }
-    Outcome::Passes
+    Outcome::Passes(registers)
 }

@@ -1,5 +1,6 @@
 // What the moves from earlier positions bring to one position.
 ghost use Rattle.std.specs.Prelude.{◌≡◌, ℕ, ◌+◌, ◌-◌, ◌%◌, ◌<◌, ◌≤◌, List, [], ◌∷◌, map, ◌≢◌};
+ghost use Rattle.std.specs.List.{list_all};
 ghost use Rattle.topl.specs.Lists.{each, ◌∈◌};
 ghost use Rattle.topl.specs.Table.{Event as Happening, Table as TheTable, numbered, implied};
 ghost use Rattle.topl.specs.Runs.{Registers, World, Reach, quiet, calm, calms, fares, lands, skips, moves};
@@ -15,7 +16,7 @@ ghost use Rattle.engine.specs.Fills.{Ready, Fills, Watched, Safe, Tracks, Brings
 use crate::attempt::attempt_statement;
 use crate::configuration::{Configuration, Entered};
 use crate::entry::Entry;
-use crate::front::{Filling, Way};
+use crate::front::Filling;
 use crate::grid::Grid;
 use crate::row::{arrive, entered_at};
 use crate::scene::{Position, Scene};
@@ -34,7 +35,6 @@ const IMPLIED: u8 = 65;
 fn written_at(i: usize, t: &Statement) -> Numbered<'_>
     requires { i < 64 }
     ensures number { result.number ≡ i + 1 }
-    ensures are { result.events.now ≡ t.now.events.items }
     ensures stands { stated result ≡ statement t.now }
 {
     // Kept `as`: there are at most 64 statements, so `try_from` would have an error case that cannot come.
@@ -50,7 +50,6 @@ fn written_at(i: usize, t: &Statement) -> Numbered<'_>
 // Kept the matcher as a parameter: as a constant the checker refuses it (`unsupported-static: in a constant, a borrow of a value that holds a struct with a ghost field ..`).
 fn implied_by(any: &[Matcher; 1]) -> Numbered<'_>
     ensures number { result.number ≡ 65 }
-    ensures are { result.events.now ≡ any.now }
     ensures stands { any.now ≡ Any ∷ [] → stated result ≡ implied }
 {
     Numbered {
@@ -93,12 +92,24 @@ fn is_calm<K: Kind>(
     ensures { (es : List Happening) → Seen K.Kind.class scene.now.events.now es
         → result ≡ calm (mode_of scene.now.mode) (fares (map matcher matchers.now) (map K.Kind.class c.now.registers) es) }
 {
-    let mut registers = c.registers;
-    match attempt_statement::<K>(scene.events, matchers, &mut registers) {
-        Outcome::Passes => false,
+    match attempt_statement::<K>(scene.events, matchers, c.registers) {
+        Outcome::Passes(_) => false,
         Outcome::Fails => true,
         Outcome::Hangs => scene.mode.lets_hang(),
     }
+}
+
+// Do all written statements that leave the state let a skip go on?
+fn are_written_calm<K: Kind>(scene: &Scene<'_, K::Value>, c: &Configuration<K::Value>) -> bool
+    ensures { (P : TheTable) (w : World) → Watched K.Kind.class scene.now P w
+        → result ≡ list_all (λ t. calms w scene.now.base (stands_for K.Kind.class c.now) (0, statement t)) scene.now.statements.now }
+{
+    scene.statements.iter().all(
+        |t| -> bool
+            ensures { (P : TheTable) (w : World) → Watched K.Kind.class scene.entry.now P w
+                → result ≡ calms w scene.entry.now.base (stands_for K.Kind.class c.entry.now) (0, statement t.now) }
+        { t.source != c.state || is_calm::<K>(scene, &t.events, c) },
+    )
 }
 
 // Do all statements that leave the state let a skip go on?
@@ -106,71 +117,61 @@ fn is_quiet<K: Kind>(scene: &Scene<'_, K::Value>, c: &Configuration<K::Value>) -
     ensures { (P : TheTable) (w : World) → Watched K.Kind.class scene.now P w
         → result ≡ quiet w scene.now.base (stands_for K.Kind.class c.now) (numbered P) }
 {
-    let written = scene.statements.iter().all(
-        |t| -> bool
-            ensures { (P : TheTable) (w : World) → Watched K.Kind.class scene.entry.now P w
-                → (n : ℕ) → result ≡ calms w scene.entry.now.base (stands_for K.Kind.class c.entry.now) (n, statement t.now) }
-        { t.source != c.state || is_calm::<K>(scene, &t.events, c) },
-    );
-    written && (c.state != START || is_calm::<K>(scene, implied_by(&[Matcher::Any]).events, c))
+    are_written_calm::<K>(scene, c) && (c.state != START || is_calm::<K>(scene, &[Matcher::Any], c))
 }
 
-// What one statement brings from a configuration at the scene's first position to the position at the end of a way.
+// What one statement brings from a configuration at the scene's first position to the position.
 fn step_statement<K: Kind>(
     grid: &mut Grid<K::Value>,
-    scene: &Scene<'_, K::Value>,
+    position: &Position<'_, K::Value>,
     t: &Numbered<'_>,
-    way: Way,
     at: &Entered<K::Value>,
 ) -> Result<(), Entry>
     requires { at.now.entry < grid.old.book.used }
-    ensures safe { Safe way.slot.at grid.old grid.new result }
-    ensures brings { (P : TheTable) (k : Registers) (w : World) → Watched K.Kind.class scene.now P w
+    ensures safe { Safe (position.now.number % 5) grid.old grid.new result }
+    ensures brings { (P : TheTable) (k : Registers) (w : World) → Watched K.Kind.class position.now.scene.now P w
         → (t.now.number, stated t.now) ∈ numbered P
-        → Reach P k w scene.now.base (stands_for K.Kind.class at.now.configuration) (steps_to grid.old.book.entries.items at.now.entry)
-        → Brings K.Kind.class way.slot.at P k w (scene.now.base + way.distance) grid.old grid.new
-        (landed (scene.now.base + way.distance) (lands w scene.now.base (stands_for K.Kind.class at.now.configuration) (t.now.number, stated t.now))) result }
+        → Reach P k w position.now.scene.now.base (stands_for K.Kind.class at.now.configuration) (steps_to grid.old.book.entries.items at.now.entry)
+        → Brings K.Kind.class (position.now.number % 5) P k w position.now.number grid.old grid.new
+        (landed position.now.number (lands w position.now.scene.now.base (stands_for K.Kind.class at.now.configuration) (t.now.number, stated t.now))) result }
 {
+    let scene = position.scene;
     let c = &at.configuration;
     if t.source != c.state {
         return Ok(());
     }
-    if t.events.len() != way.distance {
+    if scene.base + t.events.len() != position.number {
         return Ok(());
     }
-    let mut registers = c.registers;
     let from = Entry {
         parent: at.entry,
         step: t.number,
     };
-    match attempt_statement::<K>(scene.events, t.events, &mut registers) {
-        Outcome::Passes => {
+    match attempt_statement::<K>(scene.events, t.events, c.registers) {
+        Outcome::Passes(registers) => {
             let next = Configuration::new(t.target, registers);
-            land::<K>(grid, way.slot, from, &next)
+            land::<K>(grid, Slot::of(position.number), from, &next)
         }
         Outcome::Fails => Ok(()),
         Outcome::Hangs => Ok(()),
     }
 }
 
-// What a skip brings from a configuration at the scene's first position to the position at the end of a way.
+// What a skip brings from a configuration at the scene's first position to the position.
 fn step_skip<K: Kind>(
     grid: &mut Grid<K::Value>,
-    scene: &Scene<'_, K::Value>,
-    way: Way,
+    position: &Position<'_, K::Value>,
     at: &Entered<K::Value>,
 ) -> Result<(), Entry>
     requires { at.now.entry < grid.old.book.used }
-    ensures safe { Safe way.slot.at grid.old grid.new result }
-    ensures brings { (P : TheTable) (k : Registers) (w : World) → Watched K.Kind.class scene.now P w
-        → Reach P k w scene.now.base (stands_for K.Kind.class at.now.configuration) (steps_to grid.old.book.entries.items at.now.entry)
-        → Brings K.Kind.class way.slot.at P k w (scene.now.base + way.distance) grid.old grid.new
-        (landed (scene.now.base + way.distance) (skips P w scene.now.base (stands_for K.Kind.class at.now.configuration))) result }
+    ensures safe { Safe (position.now.number % 5) grid.old grid.new result }
+    ensures brings { (P : TheTable) (k : Registers) (w : World) → Watched K.Kind.class position.now.scene.now P w
+        → Reach P k w position.now.scene.now.base (stands_for K.Kind.class at.now.configuration) (steps_to grid.old.book.entries.items at.now.entry)
+        → Brings K.Kind.class (position.now.number % 5) P k w position.now.number grid.old grid.new
+        (landed position.now.number (skips P w position.now.scene.now.base (stands_for K.Kind.class at.now.configuration))) result }
 {
-    if way.distance != 1 {
-        return Ok(());
-    }
-    if scene.events.is_empty() {
+    let scene = position.scene;
+    if scene.base + 1 != position.number {
         return Ok(());
     }
     if !is_quiet::<K>(scene, &at.configuration) {
@@ -180,49 +181,47 @@ fn step_skip<K: Kind>(
         parent: at.entry,
         step: SKIP,
     };
-    land::<K>(grid, way.slot, from, &at.configuration)
+    land::<K>(grid, Slot::of(position.number), from, &at.configuration)
 }
 
-// What the moves from a configuration at the scene's first position bring to the position at the end of a way.
+// What the moves from a configuration at the scene's first position bring to the position.
 fn step_configuration<K: Kind>(
     grid: &mut Grid<K::Value>,
-    scene: &Scene<'_, K::Value>,
-    way: Way,
+    position: &Position<'_, K::Value>,
     at: &Entered<K::Value>,
 ) -> Result<(), Entry>
     requires { at.now.entry < grid.old.book.used }
-    ensures safe { Safe way.slot.at grid.old grid.new result }
-    ensures brings { (P : TheTable) (k : Registers) (w : World) → Watched K.Kind.class scene.now P w
-        → Reach P k w scene.now.base (stands_for K.Kind.class at.now.configuration) (steps_to grid.old.book.entries.items at.now.entry)
-        → Brings K.Kind.class way.slot.at P k w (scene.now.base + way.distance) grid.old grid.new
-        (landed (scene.now.base + way.distance) (moves P w scene.now.base (stands_for K.Kind.class at.now.configuration))) result }
+    ensures safe { Safe (position.now.number % 5) grid.old grid.new result }
+    ensures brings { (P : TheTable) (k : Registers) (w : World) → Watched K.Kind.class position.now.scene.now P w
+        → Reach P k w position.now.scene.now.base (stands_for K.Kind.class at.now.configuration) (steps_to grid.old.book.entries.items at.now.entry)
+        → Brings K.Kind.class (position.now.number % 5) P k w position.now.number grid.old grid.new
+        (landed position.now.number (moves P w position.now.scene.now.base (stands_for K.Kind.class at.now.configuration))) result }
 {
-    step_skip::<K>(grid, scene, way, at)?;
-    for (i, t) in scene.statements.iter().enumerate() {
-        step_statement::<K>(grid, scene, &written_at(i, t), way, at)?;
+    step_skip::<K>(grid, position, at)?;
+    for (i, t) in position.scene.statements.iter().enumerate() {
+        step_statement::<K>(grid, position, &written_at(i, t), at)?;
     }
-    step_statement::<K>(grid, scene, &implied_by(&[Matcher::Any]), way, at)
+    step_statement::<K>(grid, position, &implied_by(&[Matcher::Any]), at)
 }
 
-// What the moves from all configurations at the scene's first position bring to the position at the end of a way.
+// What the moves from all configurations at the scene's first position bring to the position, a later one.
 fn step_row<K: Kind>(
     grid: &mut Grid<K::Value>,
-    scene: &Scene<'_, K::Value>,
-    way: Way,
+    position: &Position<'_, K::Value>,
 ) -> Result<(), Entry>
-    requires { scene.now.base % 5 ≢ way.slot.at }
-    ensures safe { Safe way.slot.at grid.old grid.new result }
-    ensures brings { (P : TheTable) (k : Registers) (w : World) → Watched K.Kind.class scene.now P w
-        → Tracks K.Kind.class P k w scene.now.base grid.old (scene.now.base % 5)
-        → Brings K.Kind.class way.slot.at P k w (scene.now.base + way.distance) grid.old grid.new
-        (each (λ c. landed (scene.now.base + way.distance) (moves P w scene.now.base c)) (row_at K.Kind.class grid.old.cap (grid_of grid.old) (scene.now.base % 5))) result }
+    requires { position.now.scene.now.base < position.now.number }
+    ensures safe { Safe (position.now.number % 5) grid.old grid.new result }
+    ensures brings { (P : TheTable) (k : Registers) (w : World) → Watched K.Kind.class position.now.scene.now P w
+        → Tracks K.Kind.class P k w position.now.scene.now.base grid.old (position.now.scene.now.base % 5)
+        → Brings K.Kind.class (position.now.number % 5) P k w position.now.number grid.old grid.new
+        (each (λ c. landed position.now.number (moves P w position.now.scene.now.base c)) (row_at K.Kind.class grid.old.cap (grid_of grid.old) (position.now.scene.now.base % 5))) result }
 {
-    let source = Slot::of(scene.base);
+    let source = Slot::of(position.scene.base);
     let count = grid.front.counts[source.at];
     // Kept an index loop: the grid that the row stands in is changed on the way, so no iterator can hold the row.
     for i in 0..count {
         let at = entered_at::<K>(grid, source, i);
-        step_configuration::<K>(grid, scene, way, &at)?;
+        step_configuration::<K>(grid, position, &at)?;
     }
     Ok(())
 }
@@ -238,14 +237,14 @@ fn step_rows<K: Kind>(
         → Brings K.Kind.class (position.now.number % 5) P k w position.now.number grid.old grid.new
         (incoming P w (λ q. row_at K.Kind.class grid.old.cap (grid_of grid.old) (q % 5)) position.now.number position.now.scene.now.base (position.now.number - position.now.scene.now.base)) result }
 {
-    let base = position.scene.base;
-    for q in base..position.number {
-        let scene = position.scene.past(q - base);
-        let way = Way {
-            distance: position.number - q,
-            slot: Slot::of(position.number),
+    let number = position.number;
+    for q in position.scene.base..number {
+        let scene = position.scene.past(q - position.scene.base);
+        let past = Position {
+            scene: &scene,
+            number,
         };
-        step_row::<K>(grid, &scene, way)?;
+        step_row::<K>(grid, &past)?;
     }
     Ok(())
 }

@@ -16,13 +16,6 @@ pub struct Front {
     pub spilled: bool,
 }
 
-// The way that moves take: over `distance` events, to the position that has this place of the five.
-#[derive(Clone, Copy)]
-pub(crate) struct Way {
-    pub(crate) distance: usize,
-    pub(crate) slot: Slot,
-}
-
 // A configuration's state, and its entry in the book.
 #[derive(Clone, Copy)]
 pub(crate) struct Mark {

@@ -19,7 +19,7 @@ pub struct Register {
 
 impl Register {
     // Its place among the eight.
-    pub(crate) fn place(self) -> usize
+    pub fn place(self) -> usize
         ensures is { result ≡ self.at }
         ensures eight { result < 8 }
     {
@@ -35,7 +35,8 @@ pub struct Guard {
     ghost six: { length patterns.items ≤ 6 },
 }
 
-// What one event has to meet: nothing at all, or a guard. No Option, whose None would read as a matcher that nothing meets.
+// What one event has to meet: nothing at all, or a guard.
+// Kept an enum of its own: the None of an Option would read as a matcher that nothing meets.
 #[derive(Drop)]
 pub enum Matcher {
     Any,
@@ -53,6 +54,7 @@ pub struct Statement {
 }
 
 // A statement with its number.
+// Kept apart from `Statement`, which owns a `Vec` of matchers: the implied one has its matcher on the stack.
 #[derive(Clone, Copy)]
 pub struct Numbered<'a> {
     pub number: u8,
@@ -63,10 +65,10 @@ pub struct Numbered<'a> {
     ghost few: { length events.now ≤ 4 },
 }
 
-// How a statement fares on the events that come next.
+// How a statement fares on the events that come next: where it passes, with the registers that it leaves.
 #[derive(Clone, Copy)]
-pub enum Outcome {
-    Passes,
+pub enum Outcome<V> {
+    Passes([V; 8]),
     Fails,
     Hangs,
 }

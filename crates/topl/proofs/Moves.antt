@@ -64,6 +64,16 @@ module _ (w : World) (q : ℕ) (c : Configuration) (t : ℕ × Statement) (p : �
       ap (landed p) (cond-true (eqb t.1.source c.state) (landing_of q t (outcome_of w q c t)) [] (eq-eqb t.1.source c.state n) ∙ ap (landing_of q t) (sym h))
       ∙ cond-true (eqb (q + span t.1) p) (record { state = t.1.target; registers = s } ∷ []) [] (eq-eqb (q + span t.1) p e)
 
+  -- where it leads to another position, if it passes
+  pub lands_elsewhere : (q + span t.1 ≡ p → ⊥) → landed p (lands w q c t) ≡ []
+  lands_elsewhere n = go (eqb t.1.source c.state) (outcome_of w q c t)
+    where
+      go : (b : Bool) (o : Outcome) → landed p (cond b (landing_of q t o) []) ≡ []
+      go true (passes s) = cond-false (eqb (q + span t.1) p) (record { state = t.1.target; registers = s } ∷ []) [] (ne_eqb (q + span t.1) p n)
+      go true fails = refl
+      go true hangs = refl
+      go false o = refl
+
   -- where it does not pass
   pub lands_not : landing_of q t (outcome_of w q c t) ≡ [] → landed p (lands w q c t) ≡ []
   lands_not h = go (eqb t.1.source c.state)
@@ -116,6 +126,5 @@ module _ (P : Table) (w : World) (row : ℕ → List Configuration) (p : ℕ) wh
   incoming_front b zero (suc m) l h = absurd (omega arith)
   incoming_front b (suc n) (suc m) l h = error_behind (each (λ c. landed p (moves P w b c)) (row b)) (incoming P w row p (suc b) m) (incoming P w row p (suc b) n) (incoming_front (suc b) n m (omega arith)) h
 
-pub each_same : (P : Table) (w : World) {a a' b b' : ℕ} {r r' : List Configuration} → a ≡ a' → b ≡ b' → r ≡ r' → each (λ c. landed a (moves P w b c)) r ≡ each (λ c. landed a' (moves P w b' c)) r'
-each_same P w {a} {a'} {b} {b'} {r} {r'} e f g =
-    ap (λ (z : ℕ). each (λ c. landed z (moves P w b c)) r) e ∙ (ap (λ (z : ℕ). each (λ c. landed a' (moves P w z c)) r) f ∙ ap (each (λ c. landed a' (moves P w b' c))) g)
+pub each_same : (P : Table) (w : World) (p : ℕ) {b b' : ℕ} {r r' : List Configuration} → b ≡ b' → r ≡ r' → each (λ c. landed p (moves P w b c)) r ≡ each (λ c. landed p (moves P w b' c)) r'
+each_same P w p {b' = b'} {r} f g = ap (λ (z : ℕ). each (λ c. landed p (moves P w z c)) r) f ∙ ap (each (λ c. landed p (moves P w b' c))) g

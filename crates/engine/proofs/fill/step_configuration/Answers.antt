@@ -1,4 +1,4 @@
-use Rattle.std.proofs.Common.{◌≡◌, ◌+◌, ◌<◌, ◌≤◌, length, Ok, Err, sym, refl, ◌∙◌, arith}
+use Rattle.std.proofs.Common.{◌≡◌, ◌+◌, ◌%◌, ◌<◌, ◌≤◌, length, Ok, Err, sym, refl, ◌∙◌, arith}
 use Rattle.std.proofs.lemmas.Result.{err_from_is_err_and}
 use Rattle.topl.specs.Table.{numbered}
 use Rattle.engine.specs.Views.{stated}
@@ -16,10 +16,11 @@ returns-in_err-step_statement-clause-brings g c P k w W r =
     let t = c.written_at.result in
     let at = c.args.at.now in
     let d = stands_for class at.configuration in
-    let ts = c.args.scene.now.statements.now in
-    let base = c.args.scene.now.base in
-    let p = base + c.args.way.distance in
-    let slot = c.args.way.slot.at in
+    let scene = c.args.position.now.scene.now in
+    let ts = scene.statements.now in
+    let base = scene.base in
+    let p = c.args.position.now.number in
+    let slot = p % 5 in
     let i = c.loop-i.i in
     let x = c.in_err-step_statement.field-0.0 in
     let n = length_numbered P ts W.statements in
@@ -36,10 +37,11 @@ loop-i-preserved g c =
     let t = c.written_at.result in
     let at = c.args.at.now in
     let d = stands_for class at.configuration in
-    let ts = c.args.scene.now.statements.now in
-    let base = c.args.scene.now.base in
-    let p = base + c.args.way.distance in
-    let slot = c.args.way.slot.at in
+    let scene = c.args.position.now.scene.now in
+    let ts = scene.statements.now in
+    let base = scene.base in
+    let p = c.args.position.now.number in
+    let slot = p % 5 in
     let i = c.loop-i.i in
     record {
       safe = safe_on slot s c.loop-i.grid c.step_statement.new.grid (Ok tt) c.loop-i.invariant.safe c.in_ok-step_statement.ensures.safe;
@@ -57,10 +59,11 @@ returns-clause-brings g c P k w W r =
     let t = c.implied_by.result in
     let at = c.args.at.now in
     let d = stands_for class at.configuration in
-    let ts = c.args.scene.now.statements.now in
-    let base = c.args.scene.now.base in
-    let p = base + c.args.way.distance in
-    let slot = c.args.way.slot.at in
+    let scene = c.args.position.now.scene.now in
+    let ts = scene.statements.now in
+    let base = scene.base in
+    let p = c.args.position.now.number in
+    let slot = p % 5 in
     let i = c.loop-i.i in
     let o = c.step_statement-2.result in
     let n = length_numbered P ts W.statements in

@@ -1,6 +1,6 @@
 use Rattle.std.proofs.Common.{◌≡◌, ℕ, ◌+◌, ◌-◌, ◌%◌, ◌<◌, ◌≤◌, Ok, Err, subst, arith}
 use Rattle.std.proofs.lemmas.Result.{err_from_is_err_and}
-use Rattle.engine.specs.Fills.{Safe, Brings}
+use Rattle.engine.specs.Fills.{Brings}
 use Rattle.engine.proofs.Fills.{safe_on}
 use Rattle.engine.proofs.Steps.{brought_to, rows_more, rows_error, watched_past}
 use Rattle.engine.proofs.fill.step_rows.Goals as goal
@@ -24,7 +24,7 @@ returns-in_err-step_row-clause-brings g c P k w W T =
     let e : past.result.base ≡ q = omega (arith, past.ensures.base) in
     rw (told.1, told.2)
     (rows_error P w scene.base p class s k j (q + 1) x (omega arith)
-    (rows_more P w scene.base p class s k c.loop-q.grid j c.loop-q.invariant.safe q low l (omega arith) past.result.base (p - q) c.of.result.at e (omega arith) c.of.ensures (Err x) (T q low l) (c.loop-q.invariant.brings P k w W T)
+    (rows_more P w scene.base p class s k c.loop-q.grid j c.loop-q.invariant.safe q low l (omega arith) past.result.base e (Err x) (T q low l) (c.loop-q.invariant.brings P k w W T)
     (c.in_err-step_row.ensures.brings P k w W')))
 
 pub loop-q-preserved : goal.loop-q-preserved
@@ -41,12 +41,11 @@ loop-q-preserved g c =
     let to = c.args.position.now.to in
     let few = scene.short in
     let e : past.result.base ≡ q = omega (arith, past.ensures.base) in
-    let safe = subst (λ (z : ℕ). Safe z c.loop-q.grid j (Ok tt)) c.of.ensures c.in_ok-step_row.ensures.safe in
     record {
-      safe = safe_on (p % 5) s c.loop-q.grid j (Ok tt) c.loop-q.invariant.safe safe;
+      safe = safe_on (p % 5) s c.loop-q.grid j (Ok tt) c.loop-q.invariant.safe c.in_ok-step_row.ensures.safe;
       brings = λ P k w W T.
           let W' = watched_past class scene past.result P w (q - scene.base) past.ensures.statements past.ensures.base past.ensures.events past.ensures.mode W in
-          rows_more P w scene.base p class s k c.loop-q.grid j c.loop-q.invariant.safe q low l (omega arith) past.result.base (p - q) c.of.result.at e (omega arith) c.of.ensures (Ok tt) (T q low l) (c.loop-q.invariant.brings P k w W T)
+          rows_more P w scene.base p class s k c.loop-q.grid j c.loop-q.invariant.safe q low l (omega arith) past.result.base e (Ok tt) (T q low l) (c.loop-q.invariant.brings P k w W T)
           (c.in_ok-step_row.ensures.brings P k w W');
     }
 

@@ -1,14 +1,25 @@
-use Rattle.std.proofs.Common.{◌≡◌, ℕ, ◌+◌, [], ◌∷◌, map, drop, vec_items, sym, ap, ◌∙◌, subst, ap₂, arith}
+use Rattle.std.proofs.Common.{◌≡◌, ℕ, ◌+◌, ◌%◌, [], ◌∷◌, map, drop, vec_items, sym, ap, ◌∙◌, subst, ap₂, arith}
 use Rattle.topl.specs.Table.{span}
 use Rattle.topl.specs.Runs.{Reach, onward, pass, fares, landing_of}
-use Rattle.topl.proofs.Moves.{lands_passes, lands_not}
+use Rattle.topl.proofs.Moves.{lands_passes, lands_elsewhere, lands_not}
 use Rattle.engine.specs.Views.{stated}
 use Rattle.engine.specs.Trails.{steps_by}
 use Rattle.engine.specs.Fronts.{configuration, stands_for}
 use Rattle.engine.specs.Fills.{Brings}
-use Rattle.engine.proofs.Sound.{span_is, matchers_are}
+use Rattle.engine.proofs.Matchers.{span_is, matchers_are}
 use Rattle.engine.proofs.Fills.{brings_none}
 use Rattle.engine.proofs.fill.step_statement.Goals as goal
+
+pub returns-then-scene-t-clause-brings : goal.returns-then-scene-t-clause-brings
+returns-then-scene-t-clause-brings g c P k w W m r =
+    let class = g.K.Kind.class in
+    let t = c.args.t.now in
+    let T = stated t in
+    let d = stands_for class c.args.at.now.configuration in
+    let base = c.args.position.now.scene.now.base in
+    let p = c.args.position.now.number in
+    let long = span_is t.source t.target t.events.now t.some in
+    brings_none class (p % 5) P k w p (omega arith) c.args.grid.now _ (lands_elsewhere w base d (t.number, T) p (λ (e : base + span T ≡ p). c.if-scene-t.true (omega arith)))
 
 pub returns-in-Passes-clause-brings : goal.returns-in-Passes-clause-brings
 returns-in-Passes-clause-brings g c P k w W m r =
@@ -18,19 +29,20 @@ returns-in-Passes-clause-brings g c P k w W m r =
     let T = stated t in
     let at = c.args.at.now in
     let d = stands_for class at.configuration in
-    let base = c.args.scene.now.base in
-    let p = base + c.args.way.distance in
+    let base = c.args.position.now.scene.now.base in
+    let p = c.args.position.now.number in
     let long = span_is t.source t.target t.events.now t.some in
-    let e = c.if-t-way.false in
+    let e = c.if-scene-t.false in
     let n : base + span T ≡ p = omega arith in
-    let regs = map class c.attempt_statement.new.registers in
+    let regs = map class c.in-Passes.registers in
     let next = c.new-next in
     let is = ap₂ (configuration class) (sym next.ensures.state) (sym next.ensures.registers) in
     let h = c.in-Passes.ensures (drop base w.events) W.events ∙ ap (λ ms. fares ms d.registers (drop base w.events)) (sym (matchers_are t.source t.target t.events.now t.some)) in
     let move = onward r (pass (t.number, T) regs (m, c.if-t-c.false) (sym h)) in
     let path = steps_by (vec_items s.book.entries) (record { parent = at.entry; step = t.number }) in
-    let r' = subst (λ x. Reach P k w p x path) is (subst (λ (z : ℕ). Reach P k w z (configuration class t.target c.attempt_statement.new.registers) path) n move) in
-    subst (λ z. Brings class c.args.way.slot.at P k w p s c.land.new.grid z c.land.result) (sym (lands_passes w base d (t.number, T) p c.if-t-c.false n regs h ∙ ap (λ x. x ∷ []) is)) (c.land.ensures.brings P k w p r')
+    let r' = subst (λ x. Reach P k w p x path) is (subst (λ (z : ℕ). Reach P k w z (configuration class t.target c.in-Passes.registers) path) n move) in
+    let lands = lands_passes w base d (t.number, T) p c.if-t-c.false n regs h ∙ ap (λ x. x ∷ []) is in
+    subst (λ z. Brings class (p % 5) P k w p s c.land.new.grid z c.land.result) (sym lands) (subst (λ (z : ℕ). Brings class z P k w p s c.land.new.grid (stands_for class next.result ∷ []) c.land.result) c.of.ensures (c.land.ensures.brings P k w p r'))
 
 pub returns-in-Fails-clause-brings : goal.returns-in-Fails-clause-brings
 returns-in-Fails-clause-brings g c P k w W m r =
@@ -38,7 +50,7 @@ returns-in-Fails-clause-brings g c P k w W m r =
     let t = c.args.t.now in
     let T = stated t in
     let d = stands_for class c.args.at.now.configuration in
-    let base = c.args.scene.now.base in
-    let p = base + c.args.way.distance in
+    let base = c.args.position.now.scene.now.base in
+    let p = c.args.position.now.number in
     let h = c.in-Fails.ensures (drop base w.events) W.events ∙ ap (λ ms. fares ms d.registers (drop base w.events)) (sym (matchers_are t.source t.target t.events.now t.some)) in
-    brings_none class c.args.way.slot.at P k w p c.args.way.slot.five c.args.grid.now _ (lands_not w base d (t.number, T) p (ap (landing_of base (t.number, T)) (sym h)))
+    brings_none class (p % 5) P k w p (omega arith) c.args.grid.now _ (lands_not w base d (t.number, T) p (ap (landing_of base (t.number, T)) (sym h)))
