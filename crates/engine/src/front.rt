@@ -30,15 +30,6 @@ pub(crate) struct Mark {
     pub(crate) entry: u16,
 }
 
-// What a position is once it is filled; where `error` is reached, by which step from which entry.
-// Kept one enum: a Result would need a second one for its two reasons, and its reader still tells three answers apart.
-#[derive(Clone, Copy)]
-pub enum Filling {
-    Broken(Entry),
-    Spilled,
-    Stands,
-}
-
 // Where a run reaches `error`, and the last step of the run that is shown.
 #[derive(Clone, Copy)]
 pub struct Breach {
@@ -46,14 +37,12 @@ pub struct Breach {
     pub last: Entry,
 }
 
-// What the deciding rule comes to.
-// Kept an enum of answers, which `judge` hands on by hand: definitions give what each of them means.
+// What the deciding rule decides: a run reaches `error`, a position has more configurations than it may have, or the book has too few entries.
 #[derive(Clone, Copy)]
-pub enum Ruling {
+pub enum Decision {
     Breaks(Breach),
     Spills,
     Overfills,
-    GoesOn,
 }
 
 impl Front {
