@@ -16,9 +16,23 @@ use Rattle.engine.specs.declared.front.Decision.TheVariants.{Breaks, Spills, Ove
 use Rattle.engine.specs.Trails.{room_of, steps_by}
 use Rattle.engine.specs.Fronts.{row_at, count_at, Grid, grid, Room, Spares}
 use Rattle.engine.specs.Fills.{Ready, Stood, Grows, Fills, Fits, Tracked}
-use Rattle.engine.specs.Judging.{ruled, ShowsRun, Balance, Judged, Held, Start, Decided, entries_before, Along}
+use Rattle.engine.specs.Judging.{ruled, ShowsRun, Balance, Judged, Held, Start, Decided}
 use Rattle.engine.proofs.Fronts.{length_row_at}
 use Rattle.engine.proofs.Fills.{tracked_kept}
+
+-- the entries before position p is filled
+abbrev pub entries_before : T.Table → Registers → List T.Event → World → ℕ → ℕ
+entries_before P k L w zero = D.sum (suc (length L)) (D.count P k (so_far L))
+entries_before P k L w (suc p) = D.need P k (so_far L) w p
+
+-- on the way, where the positions below p are done
+pub record Along {V : Type 0} (class : V → Class) (cap room : ℕ) (g : Grid V) (base last p : ℕ) (P : T.Table) (k : Registers) (L : List T.Event) (w : World) : Type 0 where
+  pub quiet : (q : ℕ) → q < p → D.ruling_at P k cap room (so_far L) w q ≡ D.goes_on
+  pub done : (q : ℕ) → base ≤ q → q < p → Held class cap g P k w q
+  pub held : (q : ℕ) → p ≤ q → q ≤ last → Held class cap g P k (so_far L) q
+  pub safe : (q : ℕ) → p ≤ q → q ≤ last → D.any_error (row_at class cap g (q % 5)) ≡ false
+  pub entered : g.used ≡ entries_before P k L w p
+  pub tracked : (q : ℕ) → base ≤ q → q ≤ last → Tracked class cap P k w q g (q % 5)
 
 -- a position that is filled: what came to it decides
 module _ {V : Type 0} (class : V → Class) (cap : ℕ) (g h : Grid V) (base p : ℕ) (P : T.Table) (k : Registers) (L : List T.Event) (w : World) (R : Ready class cap g base p P k L w) where

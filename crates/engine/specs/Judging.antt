@@ -1,5 +1,5 @@
 -- The deciding rule as the code comes to it.
-use Rattle.std.specs.Prelude.{◌≡◌, ℕ, zero, suc, ◌+◌, ◌-◌, ◌%◌, ◌<◌, ◌≤◌, true, false, List, length, Ok, Err, Result}
+use Rattle.std.specs.Prelude.{◌≡◌, ℕ, suc, ◌+◌, ◌-◌, ◌%◌, ◌<◌, ◌≤◌, true, false, List, length, Ok, Err, Result}
 use Rattle.topl.specs.Lists.{Class, apart}
 use Rattle.topl.specs.Table as T
 use Rattle.topl.specs.Runs.{Registers, World, so_far, alikeᶜ}
@@ -64,17 +64,3 @@ pub record Decided {V : Type 0} (class : V → Class) (cap : ℕ) (g h : Grid V)
   pub held : r ≡ Ok tt → (q : ℕ) → base ≤ q → q ≤ last → Held class cap h P k w q
   pub total : r ≡ Ok tt → h.used ≡ D.sum (suc last) (D.count P k w)
   pub tracked : r ≡ Ok tt → (q : ℕ) → base ≤ q → q ≤ last → Tracked class cap P k w q h (q % 5)
-
--- the entries before position p is filled
-abbrev pub entries_before : T.Table → Registers → List T.Event → World → ℕ → ℕ
-entries_before P k L w zero = D.sum (suc (length L)) (D.count P k (so_far L))
-entries_before P k L w (suc p) = D.need P k (so_far L) w p
-
--- on the way, where the positions below p are done
-pub record Along {V : Type 0} (class : V → Class) (cap room : ℕ) (g : Grid V) (base last p : ℕ) (P : T.Table) (k : Registers) (L : List T.Event) (w : World) : Type 0 where
-  pub quiet : (q : ℕ) → q < p → D.ruling_at P k cap room (so_far L) w q ≡ D.goes_on
-  pub done : (q : ℕ) → base ≤ q → q < p → Held class cap g P k w q
-  pub held : (q : ℕ) → p ≤ q → q ≤ last → Held class cap g P k (so_far L) q
-  pub safe : (q : ℕ) → p ≤ q → q ≤ last → D.any_error (row_at class cap g (q % 5)) ≡ false
-  pub entered : g.used ≡ entries_before P k L w p
-  pub tracked : (q : ℕ) → base ≤ q → q ≤ last → Tracked class cap P k w q g (q % 5)

@@ -31,14 +31,14 @@ pub(crate) struct Mark {
 }
 
 // Where a run reaches `error`, and the last step of the run that is shown.
-#[derive(Clone, Copy)]
+#[derive(Clone, Copy, Debug)]
 pub struct Breach {
     pub position: usize,
     pub last: Entry,
 }
 
 // What the deciding rule decides: a run reaches `error`, a position has more configurations than it may have, or the book has too few entries.
-#[derive(Clone, Copy)]
+#[derive(Clone, Copy, Debug)]
 pub enum Decision {
     Breaks(Breach),
     Spills,
