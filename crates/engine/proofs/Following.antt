@@ -1,12 +1,11 @@
 -- From one list of events to the next.
-use Rattle.std.proofs.Common.{◌≡◌, ℕ, suc, ◌+◌, ◌-◌, ◌%◌, ◌≤◌, List, [], ◌∷◌, ◌++◌, length, take, drop, sym, ap, ◌∙◌, subst, arith, length-append, length-drop}
+use Rattle.std.proofs.Common.{◌≡◌, ℕ, suc, ◌+◌, ◌-◌, ◌%◌, ◌≤◌, List, [], ◌∷◌, ◌++◌, length, take, drop, Ok, Result, sym, ap, ◌∙◌, subst, arith, length-append, length-drop}
 use Rattle.std.proofs.lemmas.List.{drop-append-le, length-take-le}
 use Rattle.topl.specs.Lists.{Class}
 use Rattle.topl.specs.Table as T
 use Rattle.topl.specs.Runs.{Registers, so_far}
 use Rattle.topl.specs.Deciding.{sum, count}
-use Rattle.engine.specs.declared.front.Ruling.{Ruling}
-use Rattle.engine.specs.declared.front.Ruling.TheVariants.{GoesOn}
+use Rattle.engine.specs.declared.front.Decision.{Decision}
 use Rattle.engine.specs.declared.state.State.{State}
 use Rattle.engine.specs.declared.window.Window.{Window}
 use Rattle.engine.specs.Fronts.{Grid}
@@ -31,12 +30,12 @@ seen_count class W L b n l e R =
     let t = length-take-le W.seen W.events (omega arith) in
     omega arith
 
-module _ {V : Type 0} (class : V → Class) (s t : State V) (g : Grid V) (P : T.Table) (k : Registers) (L : List T.Event) (e : T.Event) (r : Ruling)
+module _ {V : Type 0} (class : V → Class) (s t : State V) (g : Grid V) (P : T.Table) (k : Registers) (L : List T.Event) (e : T.Event) (r : Result (Unit {0}) Decision)
     (D : Decided class s.grid.cap g (grid_of t.grid) (length L - 3) (suc (length L)) P k L (so_far (L ++ e ∷ [])) r) (cap : t.grid.cap ≡ s.grid.cap) (W : Remembers class t.window (drop (length L - 3) (L ++ e ∷ []))) where
   long : length (L ++ e ∷ []) ≡ suc (length L)
   long = let n = length-append L (e ∷ []) in omega arith
 
-  pub follows_on : r ≡ GoesOn → Follows class t P k (L ++ e ∷ [])
+  pub follows_on : r ≡ Ok tt → Follows class t P k (L ++ e ∷ [])
   follows_on x = record {
     held = λ q l m. let n = long in subst (λ (c : ℕ). Held class c (grid_of t.grid) P k (so_far (L ++ e ∷ [])) q) (sym cap) (D.held x q (omega arith) (omega arith));
     tracked = λ q l m. let n = long in subst (λ (c : ℕ). Tracked class c P k (so_far (L ++ e ∷ [])) q (grid_of t.grid) (q % 5)) (sym cap) (D.tracked x q (omega arith) (omega arith));

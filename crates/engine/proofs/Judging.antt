@@ -1,20 +1,72 @@
 -- From position to position.
-use Rattle.std.proofs.Common.{◌≡◌, ℕ, zero, suc, ◌+◌, ◌%◌, ◌<◌, ◌≤◌, true, false, List, length, sym, refl, ap, ◌∙◌, subst, ⊎_elim, add-one, arith}
+use Rattle.std.proofs.Common.{◌≡◌, ℕ, zero, suc, ◌+◌, ◌-◌, ◌%◌, ◌<◌, ◌≤◌, Bool, true, false, ◌||◌, ◌++◌, List, length, Ok, Err, Result, sym, refl, ap, ◌∙◌, subst, ⊎_elim, add-one, arith}
 use Rattle.std.proofs.lemmas.Bool.{cases_eq, lt-ltb, le-ltb}
 use Rattle.topl.specs.Lists.{Class, apart}
 use Rattle.topl.specs.Table as T
-use Rattle.topl.specs.Runs.{Registers, World, so_far, alikeᶜ, reached}
-use Rattle.topl.specs.Rows.{Stands}
+use Rattle.topl.specs.Runs.{Registers, Configuration, World, so_far, alikeᶜ, reached}
+use Rattle.topl.specs.Rows.{Stands, Filled, incoming}
 use Rattle.topl.specs.Deciding as D
+use Rattle.topl.specs.Theorems.{ErrsBy}
 use Rattle.topl.proofs.Deciding.{no_ruling, finding}
-use Rattle.engine.specs.declared.front.Breach.{Breach}
-use Rattle.engine.specs.declared.front.Ruling.{Ruling}
-use Rattle.engine.specs.declared.front.Ruling.TheVariants.{Breaks, Spills, Overfills, GoesOn}
-use Rattle.engine.specs.Trails.{room_of}
-use Rattle.engine.specs.Fronts.{row_at, Grid, Room, Spares}
-use Rattle.engine.specs.Fills.{Ready, Tracked}
-use Rattle.engine.specs.Judging.{ruled, ShowsRun, Balance, Judged, Held, Start, Decided, entries_before, Along}
+use Rattle.topl.proofs.Loops.{filled_first}
+use Rattle.topl.proofs.Positions.{errs, over_count, filled_stands}
+use Rattle.topl.proofs.Step.{stepping}
+use Rattle.engine.specs.declared.front.Decision.{Decision}
+use Rattle.engine.specs.declared.front.Decision.TheVariants.{Breaks, Spills, Overfills}
+use Rattle.engine.specs.Trails.{room_of, steps_by}
+use Rattle.engine.specs.Fronts.{row_at, count_at, Grid, grid, Room, Spares}
+use Rattle.engine.specs.Fills.{Ready, Stood, Grows, Fills, Fits, Tracked}
+use Rattle.engine.specs.Judging.{ruled, ShowsRun, Balance, Judged, Held, Start, Decided}
+use Rattle.engine.proofs.Fronts.{length_row_at}
 use Rattle.engine.proofs.Fills.{tracked_kept}
+
+-- the entries before position p is filled
+abbrev pub entries_before : T.Table → Registers → List T.Event → World → ℕ → ℕ
+entries_before P k L w zero = D.sum (suc (length L)) (D.count P k (so_far L))
+entries_before P k L w (suc p) = D.need P k (so_far L) w p
+
+-- on the way, where the positions below p are done
+pub record Along {V : Type 0} (class : V → Class) (cap room : ℕ) (g : Grid V) (base last p : ℕ) (P : T.Table) (k : Registers) (L : List T.Event) (w : World) : Type 0 where
+  pub quiet : (q : ℕ) → q < p → D.ruling_at P k cap room (so_far L) w q ≡ D.goes_on
+  pub done : (q : ℕ) → base ≤ q → q < p → Held class cap g P k w q
+  pub held : (q : ℕ) → p ≤ q → q ≤ last → Held class cap g P k (so_far L) q
+  pub safe : (q : ℕ) → p ≤ q → q ≤ last → D.any_error (row_at class cap g (q % 5)) ≡ false
+  pub entered : g.used ≡ entries_before P k L w p
+  pub tracked : (q : ℕ) → base ≤ q → q ≤ last → Tracked class cap P k w q g (q % 5)
+
+-- a position that is filled: what came to it decides
+module _ {V : Type 0} (class : V → Class) (cap : ℕ) (g h : Grid V) (base p : ℕ) (P : T.Table) (k : Registers) (L : List T.Event) (w : World) (R : Ready class cap g base p P k L w) where
+  abbrev pub row : ℕ → List Configuration
+  row q = row_at class cap g (q % 5)
+
+  abbrev pub came : List Configuration
+  came = incoming P w row p base (p - base)
+
+  abbrev pub begun : Grid V
+  begun = grid (record g.front { spilled = false }) g.rows g.book g.used
+
+  pub came_errors : D.any_error (reached P k w p) ≡ D.any_error came
+  came_errors = errs P k L w row base p R.steps R.from R.earlier (row p) R.before ∙ ap (λ (b : Bool). b || D.any_error came) R.safe
+
+  filled : Grows class cap (p % 5) P k w p begun h came → Filled cap (row_at class cap h (p % 5)) (row p ++ came) h.front.spilled
+  filled G = G.fill (row p) (filled_first cap (row p) R.once)
+
+  pub came_spills : Grows class cap (p % 5) P k w p begun h came → h.front.spilled ≡ true → cap < D.count P k w p
+  came_spills G s = over_count P k L w row base p R.steps R.from R.earlier (row p) R.before cap ((filled G).over s)
+
+  pub came_stands : base ≤ p → D.any_error came ≡ false → Grows class cap (p % 5) P k w p begun h came → h.front.spilled ≡ false → Stood class cap g h p P k w
+  came_stands from e G s =
+      let new = row_at class cap h (p % 5) in
+      let f = subst (Filled cap new (row p ++ came)) s (filled G) in record {
+        no_error = came_errors ∙ e;
+        stands = filled_stands P k L w row base p R.steps R.from R.earlier (row p) R.before cap new f;
+        once = f.distinct;
+        other = G.other;
+        kept = G.kept;
+        long = G.long;
+        counted = G.counted;
+        tracked = λ z. G.tracked z (R.tracked p from (omega arith));
+      }
 
 module _ (P : T.Table) (k : Registers) (cap book : ℕ) (before now : World) (p : ℕ) where
   pub rules_broken : D.any_error (reached P k now p) ≡ true → D.breaks p ≡ D.ruling_at P k cap book before now p
@@ -33,33 +85,71 @@ module _ (P : T.Table) (k : Registers) (cap book : ℕ) (before now : World) (p 
   unfolding D.ruling_at
   rules_goes e l b = rw (e, le-ltb cap (D.count P k now p) l, le-ltb book (D.need P k before now p) b)
 
-ruled_goes : (r : Ruling) → ruled r ≡ D.goes_on → r ≡ GoesOn
-ruled_goes (Breaks b) e = let z : ◌≡◌ {A = ℕ} 0 1 = cc in absurd (omega arith)
-ruled_goes Spills e = let z : ◌≡◌ {A = ℕ} 0 1 = cc in absurd (omega arith)
-ruled_goes Overfills e = let z : ◌≡◌ {A = ℕ} 0 1 = cc in absurd (omega arith)
-ruled_goes GoesOn e = refl
+-- what is decided is no going on
+ruled_stops : (d : Decision) → ruled (Err d) ≡ D.goes_on → ⊥
+ruled_stops (Breaks b) e = let z : ◌≡◌ {A = ℕ} 0 1 = cc in omega arith
+ruled_stops Spills e = let z : ◌≡◌ {A = ℕ} 0 1 = cc in omega arith
+ruled_stops Overfills e = let z : ◌≡◌ {A = ℕ} 0 1 = cc in omega arith
 
-pub breaks_not : {b : Breach} → Breaks b ≡ GoesOn → ⊥
-breaks_not e = let z : ◌≡◌ {A = ℕ} 0 1 = cc in omega arith
-
-pub spills_not : Spills ≡ GoesOn → ⊥
-spills_not e = let z : ◌≡◌ {A = ℕ} 0 1 = cc in omega arith
-
-pub overfills_not : Overfills ≡ GoesOn → ⊥
-overfills_not e = let z : ◌≡◌ {A = ℕ} 0 1 = cc in omega arith
+decided_not : (d : Decision) → ◌≡◌ {A = Result (Unit {0}) Decision} (Err d) (Ok tt) → ⊥
+decided_not d e = let z : ◌≡◌ {A = ℕ} 0 1 = cc in omega arith
 
 -- a position at which something is decided
-pub judged_stops : {V : Type 0} (class : V → Class) (cap : ℕ) (g h : Grid V) (p : ℕ) (P : T.Table) (k : Registers) (L : List T.Event) (w : World) (r : Ruling) → (r ≡ GoesOn → ⊥) →
-    ruled r ≡ D.ruling_at P k cap (room_of g.book) (so_far L) w p → ShowsRun P k w h.book r → Judged class cap g h p P k L w r
-judged_stops class cap g h p P k L w r n e s = record {
+pub judged_stops : {V : Type 0} (class : V → Class) (cap : ℕ) (g h : Grid V) (p : ℕ) (P : T.Table) (k : Registers) (L : List T.Event) (w : World) (d : Decision) →
+    ruled (Err d) ≡ D.ruling_at P k cap (room_of g.book) (so_far L) w p → ShowsRun P k w h.book (Err d) → Judged class cap g h p P k L w (Err d)
+judged_stops class cap g h p P k L w d e s = record {
   rules = e;
   shown = s;
-  held = λ z. absurd (n z);
-  other = λ z. absurd (n z);
-  kept = λ z. absurd (n z);
-  needs = λ z. absurd (n z);
-  tracked = λ z. absurd (n z);
+  held = λ z. absurd (decided_not d z);
+  other = λ z. absurd (decided_not d z);
+  kept = λ z. absurd (decided_not d z);
+  needs = λ z. absurd (decided_not d z);
+  tracked = λ z. absurd (decided_not d z);
 }
+
+-- a position that is filled is ruled on
+module _ {V : Type 0} (class : V → Class) (cap : ℕ) (g h : Grid V) (p : ℕ) (P : T.Table) (k : Registers) (L : List T.Event) (w : World) where
+  pub judged_err : (d : Decision) → Fills class cap g h p P k w (Err d) → Judged class cap g h p P k L w (Err d)
+  judged_err (Breaks b) f =
+      judged_stops class cap g h p P k L w (Breaks b) (ap D.breaks f.0 ∙ rules_broken P k cap (room_of g.book) (so_far L) w p f.1) (subst (λ (q : ℕ). ErrsBy P k w q (steps_by h.book b.last)) (sym f.0) f.2)
+  judged_err Spills f = judged_stops class cap g h p P k L w Spills (rules_spilled P k cap (room_of g.book) (so_far L) w p f.0 f.1) tt
+  judged_err Overfills f = absurd f
+
+  -- as many as are reached
+  counted : (v : World) (j : Grid V) → Room cap j → Stands P k v p (row_at class cap j (p % 5)) → apart alikeᶜ (row_at class cap j (p % 5)) ≡ true → count_at j.front (p % 5) ≡ D.count P k v p
+  counted v j R stands once = sym (length_row_at class cap (p % 5) j (omega arith) R) ∙ stepping.1 P k v p (row_at class cap j (p % 5)) stands once
+
+  module _ (base : ℕ) (R : Ready class cap g base p P k L w) (before : Room cap g) (after : Room cap h) (B : Balance g.used p P k L w) (S : Stood class cap g h p P k w)
+      (need : ℕ) (is : need ≡ g.used + count_at h.front (p % 5) - count_at g.front (p % 5)) where
+    -- the entries that are needed, in a book that is as long as it was
+    needed : (need ≡ D.need P k (so_far L) w p) × (room_of h.book ≡ room_of g.book) × (D.count P k w p ≤ cap)
+    needed =
+        let m = counted (so_far L) g before R.before R.once in
+        let n = counted w h after S.stands S.once in
+        let top = after.3 (p % 5) in
+        let long = S.long in
+        (omega arith, omega arith, omega arith)
+
+    pub judged_full : room_of h.book < need → Judged class cap g h p P k L w (Err Overfills)
+    judged_full l =
+        let a = needed.0 in
+        let b = needed.1 in
+        judged_stops class cap g h p P k L w Overfills (rules_full P k cap (room_of g.book) (so_far L) w p S.no_error needed.2 (omega arith)) tt
+
+    pub judged_goes : need ≤ room_of h.book → Judged class cap g h p P k L w (Ok tt)
+    judged_goes l =
+        let a = needed.0 in
+        let b = needed.1 in
+        let fit : Fits (p % 5) g h = omega arith in
+        let c = S.counted fit in record {
+          rules = rules_goes P k cap (room_of g.book) (so_far L) w p S.no_error needed.2 (omega arith);
+          shown = tt;
+          held = λ e. record { stands = S.stands; once = S.once };
+          other = λ e. S.other;
+          kept = λ e. S.kept;
+          needs = λ e. omega arith;
+          tracked = λ e. S.tracked fit;
+        }
 
 module _ {V : Type 0} (class : V → Class) (cap : ℕ) (base last : ℕ) (P : T.Table) (k : Registers) (L : List T.Event) (w : World) (g : Grid V) (S : Start class cap g base last P k L w) (five : last ≤ base + 4) where
   low_entries : (p : ℕ) → p ≡ base → entries_before P k L w p ≡ D.sum (suc (length L)) (D.count P k (so_far L))
@@ -95,23 +185,23 @@ module _ {V : Type 0} (class : V → Class) (cap : ℕ) (base last : ℕ) (P : T
     along_balance : Balance h.used p P k L w
     along_balance = balance p high ∙ ap (λ (z : ℕ). z + D.count P k w p) (sym A.entered)
 
-    module _ (j : Grid V) (r : Ruling) (X : Spares (p % 5) h.front j.front) (c : ℕ) (same : c ≡ cap) (judged : Ready class c h base p P k L w → Balance h.used p P k L w → Judged class c h j p P k L w r) where
+    module _ (j : Grid V) (r : Result (Unit {0}) Decision) (X : Spares (p % 5) h.front j.front) (c : ℕ) (same : c ≡ cap) (judged : Ready class c h base p P k L w → Balance h.used p P k L w → Judged class c h j p P k L w r) where
       J : Judged class cap h j p P k L w r
       J = subst (λ (z : ℕ). Judged class z h j p P k L w r) same (judged (subst (λ (z : ℕ). Ready class z h base p P k L w) (sym same) along_ready) along_balance)
 
       rules' : ruled r ≡ D.ruling_at P k cap (room_of g.book) (so_far L) w p
       rules' = J.rules ∙ ap (λ (z : ℕ). D.ruling_at P k cap z (so_far L) w p) (let l = long in omega arith)
 
-      pub along_decides : (r ≡ GoesOn → ⊥) → Decided class cap g j base last P k L w r
-      along_decides n = record {
-        decides = sym ((finding P k cap (room_of g.book) (so_far L) w).found p (ruled r) (let t = S.to in omega arith) A.quiet (λ e. n (ruled_goes r e)) (sym rules'));
+      pub along_decides : (d : Decision) → r ≡ Err d → Decided class cap g j base last P k L w r
+      along_decides d x = let n : r ≡ Ok tt → ⊥ = λ e. decided_not d (sym x ∙ e) in record {
+        decides = sym ((finding P k cap (room_of g.book) (so_far L) w).found p (ruled r) (let t = S.to in omega arith) A.quiet (λ e. ruled_stops d (ap ruled (sym x) ∙ e)) (sym rules'));
         shown = J.shown;
         held = λ e. absurd (n e);
         total = λ e. absurd (n e);
         tracked = λ e. absurd (n e);
       }
 
-      module _ (e : r ≡ GoesOn) where
+      module _ (e : r ≡ Ok tt) where
         kept : (w' : World) (q : ℕ) → base ≤ q → q ≤ last → (q ≡ p → ⊥) → Held class cap h P k w' q → Held class cap j P k w' q
         kept w' q l m n x =
             let y : row_at class cap j (q % 5) ≡ row_at class cap h (q % 5) = J.other e (q % 5) (omega arith) (λ z. n (omega arith)) in
@@ -141,7 +231,7 @@ module _ {V : Type 0} (class : V → Class) (cap : ℕ) (base last : ℕ) (P : T
           tracked = next_tracked;
         })
 
-  pub along_end : (p : ℕ) (h : Grid V) → Along class cap (room_of g.book) h base last p P k L w → p ≡ suc last → Decided class cap g h base last P k L w GoesOn
+  pub along_end : (p : ℕ) (h : Grid V) → Along class cap (room_of g.book) h base last p P k L w → p ≡ suc last → Decided class cap g h base last P k L w (Ok tt)
   along_end p h A e = record {
     decides = sym ((finding P k cap (room_of g.book) (so_far L) w).never (λ q l. A.quiet q (let t = S.to in omega arith)));
     shown = tt;

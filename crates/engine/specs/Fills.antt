@@ -9,8 +9,8 @@ use Rattle.topl.specs.Theorems.{StepsTo, ErrsBy}
 use Rattle.engine.specs.declared.entry.Entry.{Entry}
 use Rattle.engine.specs.declared.scene.Scene.{Scene}
 use Rattle.engine.specs.declared.grid.Grid as G
-use Rattle.engine.specs.declared.front.Filling.{Filling}
-use Rattle.engine.specs.declared.front.Filling.TheVariants.{Broken, Spilled, Stands as Stands'}
+use Rattle.engine.specs.declared.front.Decision.{Decision}
+use Rattle.engine.specs.declared.front.Decision.TheVariants.{Breaks, Spills, Overfills}
 use Rattle.engine.specs.Modes.{mode_of}
 use Rattle.engine.specs.Views.{statement, Seen}
 use Rattle.engine.specs.Trails.{steps_to, steps_by, room_of}
@@ -65,11 +65,12 @@ pub record Safe {V : Type 0} (slot : ℕ) (g h : G.Grid V) (r : Result (Unit {0}
   pub long : length (vec_items h.book.entries) ≡ length (vec_items g.book.entries)
   pub known : (x : Entry) → r ≡ Err x → x.parent < h.book.used
 
--- what a position that is filled tells
-abbrev pub first_error : Filling → Result (Unit {0}) Entry
-first_error (Broken x) = Err x
-first_error Spilled = Ok tt
-first_error Stands' = Ok tt
+-- the entry by which a run is shown, where it breaks
+abbrev pub shown_entry : Result (Unit {0}) Decision → Result (Unit {0}) Entry
+shown_entry (Ok _) = Ok tt
+shown_entry (Err (Breaks b)) = Err b.last
+shown_entry (Err Spills) = Ok tt
+shown_entry (Err Overfills) = Ok tt
 
 -- Position p can be filled: the positions before it stand as they are now, and p as it was before, with no `error`; all of them are reached by their
 -- entries.
@@ -93,8 +94,9 @@ pub record Stood {V : Type 0} (class : V → Class) (cap : ℕ) (g h : Grid V) (
   pub counted : Fits (p % 5) g h → h.used + count_at g.front (p % 5) ≡ g.used + count_at h.front (p % 5)
   pub tracked : Fits (p % 5) g h → Tracked class cap P k w p h (p % 5)
 
--- what position p is then
-abbrev pub Fills : {V : Type 0} → (V → Class) → ℕ → Grid V → Grid V → ℕ → T.Table → Registers → World → Filling → Type 0
-Fills class cap g h p P k w (Broken x) = (any_error (reached P k w p) ≡ true) × ErrsBy P k w p (steps_by h.book x)
-Fills class cap g h p P k w Spilled = (any_error (reached P k w p) ≡ false) × (cap < count P k w p)
-Fills class cap g h p P k w Stands' = Stood class cap g h p P k w
+-- what position p is then: the book's room is not asked yet
+abbrev pub Fills : {V : Type 0} → (V → Class) → ℕ → Grid V → Grid V → ℕ → T.Table → Registers → World → Result (Unit {0}) Decision → Type 0
+Fills class cap g h p P k w (Ok _) = Stood class cap g h p P k w
+Fills class cap g h p P k w (Err (Breaks b)) = (b.position ≡ p) × (any_error (reached P k w p) ≡ true) × ErrsBy P k w p (steps_by h.book b.last)
+Fills class cap g h p P k w (Err Spills) = (any_error (reached P k w p) ≡ false) × (cap < count P k w p)
+Fills class cap g h p P k w (Err Overfills) = ⊥

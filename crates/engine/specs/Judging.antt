@@ -1,5 +1,5 @@
 -- The deciding rule as the code comes to it.
-use Rattle.std.specs.Prelude.{◌≡◌, ℕ, zero, suc, ◌+◌, ◌-◌, ◌%◌, ◌<◌, ◌≤◌, true, false, List, length, Ok, Err, Result}
+use Rattle.std.specs.Prelude.{◌≡◌, ℕ, suc, ◌+◌, ◌-◌, ◌%◌, ◌<◌, ◌≤◌, true, false, List, length, Ok, Err, Result}
 use Rattle.topl.specs.Lists.{Class, apart}
 use Rattle.topl.specs.Table as T
 use Rattle.topl.specs.Runs.{Registers, World, so_far, alikeᶜ}
@@ -7,31 +7,25 @@ use Rattle.topl.specs.Rows.{Stands}
 use Rattle.topl.specs.Deciding as D
 use Rattle.topl.specs.Theorems.{StepsTo, Resumes, ErrsBy}
 use Rattle.engine.specs.declared.entry.Entry.{Entry}
-use Rattle.engine.specs.declared.front.Ruling.{Ruling}
-use Rattle.engine.specs.declared.front.Ruling.TheVariants.{Breaks, Spills, Overfills, GoesOn}
+use Rattle.engine.specs.declared.front.Decision.{Decision}
+use Rattle.engine.specs.declared.front.Decision.TheVariants.{Breaks, Spills, Overfills}
 use Rattle.engine.specs.Trails.{steps_to, steps_by, room_of}
 use Rattle.engine.specs.Fronts.{row_at, Grid, Others}
 use Rattle.engine.specs.Fills.{Tracked}
 
--- the theory's ruling, and the entry by which a run is shown
-abbrev pub ruled : Ruling → D.Ruling
-ruled (Breaks b) = D.breaks b.position
-ruled Spills = D.spills
-ruled Overfills = D.overfills
-ruled GoesOn = D.goes_on
-
-abbrev pub shown_entry : Ruling → Result (Unit {0}) Entry
-shown_entry (Breaks b) = Err b.last
-shown_entry Spills = Ok tt
-shown_entry Overfills = Ok tt
-shown_entry GoesOn = Ok tt
+-- the theory's ruling
+abbrev pub ruled : Result (Unit {0}) Decision → D.Ruling
+ruled (Ok _) = D.goes_on
+ruled (Err (Breaks b)) = D.breaks b.position
+ruled (Err Spills) = D.spills
+ruled (Err Overfills) = D.overfills
 
 -- where it breaks, the entry shows a run that reaches `error` at the position
-abbrev pub ShowsRun : T.Table → Registers → World → List Entry → Ruling → Type 0
-ShowsRun P k w book (Breaks b) = ErrsBy P k w b.position (steps_by book b.last)
-ShowsRun P k w book Spills = Unit {0}
-ShowsRun P k w book Overfills = Unit {0}
-ShowsRun P k w book GoesOn = Unit {0}
+abbrev pub ShowsRun : T.Table → Registers → World → List Entry → Result (Unit {0}) Decision → Type 0
+ShowsRun P k w book (Ok _) = Unit {0}
+ShowsRun P k w book (Err (Breaks b)) = ErrsBy P k w b.position (steps_by book b.last)
+ShowsRun P k w book (Err Spills) = Unit {0}
+ShowsRun P k w book (Err Overfills) = Unit {0}
 
 -- the entries before position p is filled, against the need once it is
 abbrev pub Balance : ℕ → ℕ → T.Table → Registers → List T.Event → World → Type 0
@@ -43,14 +37,14 @@ pub record Held {V : Type 0} (class : V → Class) (cap : ℕ) (g : Grid V) (P :
   pub once : apart alikeᶜ (row_at class cap g (q % 5)) ≡ true
 
 -- position p was filled, and ruled on
-pub record Judged {V : Type 0} (class : V → Class) (cap : ℕ) (g h : Grid V) (p : ℕ) (P : T.Table) (k : Registers) (L : List T.Event) (w : World) (r : Ruling) : Type 0 where
+pub record Judged {V : Type 0} (class : V → Class) (cap : ℕ) (g h : Grid V) (p : ℕ) (P : T.Table) (k : Registers) (L : List T.Event) (w : World) (r : Result (Unit {0}) Decision) : Type 0 where
   pub rules : ruled r ≡ D.ruling_at P k cap (room_of g.book) (so_far L) w p
   pub shown : ShowsRun P k w h.book r
-  pub held : r ≡ GoesOn → Held class cap h P k w p
-  pub other : r ≡ GoesOn → Others class cap (p % 5) g h
-  pub kept : r ≡ GoesOn → (n : ℕ) → n < g.used → steps_to h.book n ≡ steps_to g.book n
-  pub needs : r ≡ GoesOn → h.used ≡ D.need P k (so_far L) w p
-  pub tracked : r ≡ GoesOn → Tracked class cap P k w p h (p % 5)
+  pub held : r ≡ Ok tt → Held class cap h P k w p
+  pub other : r ≡ Ok tt → Others class cap (p % 5) g h
+  pub kept : r ≡ Ok tt → (n : ℕ) → n < g.used → steps_to h.book n ≡ steps_to g.book n
+  pub needs : r ≡ Ok tt → h.used ≡ D.need P k (so_far L) w p
+  pub tracked : r ≡ Ok tt → Tracked class cap P k w p h (p % 5)
 
 -- Before a feed or a close: the rows stand as they were, none has `error`, all are reached by their entries, and each has one entry of the book.
 pub record Start {V : Type 0} (class : V → Class) (cap : ℕ) (g : Grid V) (base last : ℕ) (P : T.Table) (k : Registers) (L : List T.Event) (w : World) : Type 0 where
@@ -64,23 +58,9 @@ pub record Start {V : Type 0} (class : V → Class) (cap : ℕ) (g : Grid V) (ba
   pub tracked : (q : ℕ) → base ≤ q → q ≤ last → Tracked class cap P k w q g (q % 5)
 
 -- after it
-pub record Decided {V : Type 0} (class : V → Class) (cap : ℕ) (g h : Grid V) (base last : ℕ) (P : T.Table) (k : Registers) (L : List T.Event) (w : World) (r : Ruling) : Type 0 where
+pub record Decided {V : Type 0} (class : V → Class) (cap : ℕ) (g h : Grid V) (base last : ℕ) (P : T.Table) (k : Registers) (L : List T.Event) (w : World) (r : Result (Unit {0}) Decision) : Type 0 where
   pub decides : ruled r ≡ D.decides P k cap (room_of g.book) (so_far L) w
   pub shown : ShowsRun P k w h.book r
-  pub held : r ≡ GoesOn → (q : ℕ) → base ≤ q → q ≤ last → Held class cap h P k w q
-  pub total : r ≡ GoesOn → h.used ≡ D.sum (suc last) (D.count P k w)
-  pub tracked : r ≡ GoesOn → (q : ℕ) → base ≤ q → q ≤ last → Tracked class cap P k w q h (q % 5)
-
--- the entries before position p is filled
-abbrev pub entries_before : T.Table → Registers → List T.Event → World → ℕ → ℕ
-entries_before P k L w zero = D.sum (suc (length L)) (D.count P k (so_far L))
-entries_before P k L w (suc p) = D.need P k (so_far L) w p
-
--- on the way, where the positions below p are done
-pub record Along {V : Type 0} (class : V → Class) (cap room : ℕ) (g : Grid V) (base last p : ℕ) (P : T.Table) (k : Registers) (L : List T.Event) (w : World) : Type 0 where
-  pub quiet : (q : ℕ) → q < p → D.ruling_at P k cap room (so_far L) w q ≡ D.goes_on
-  pub done : (q : ℕ) → base ≤ q → q < p → Held class cap g P k w q
-  pub held : (q : ℕ) → p ≤ q → q ≤ last → Held class cap g P k (so_far L) q
-  pub safe : (q : ℕ) → p ≤ q → q ≤ last → D.any_error (row_at class cap g (q % 5)) ≡ false
-  pub entered : g.used ≡ entries_before P k L w p
-  pub tracked : (q : ℕ) → base ≤ q → q ≤ last → Tracked class cap P k w q g (q % 5)
+  pub held : r ≡ Ok tt → (q : ℕ) → base ≤ q → q ≤ last → Held class cap h P k w q
+  pub total : r ≡ Ok tt → h.used ≡ D.sum (suc last) (D.count P k w)
+  pub tracked : r ≡ Ok tt → (q : ℕ) → base ≤ q → q ≤ last → Tracked class cap P k w q h (q % 5)

@@ -11,12 +11,12 @@ ghost use Rattle.engine.specs.Views.{matcher, statement, stated, Seen};
 ghost use Rattle.engine.specs.Trails.{steps_to, steps_by};
 ghost use Rattle.engine.specs.Fronts.{stands_for, row_at};
 ghost use Rattle.engine.specs.Grids.{grid_of};
-ghost use Rattle.engine.specs.Fills.{Ready, Fills, Watched, Safe, Tracks, Brings, first_error};
+ghost use Rattle.engine.specs.Fills.{Ready, Fills, Watched, Safe, Tracks, Brings, shown_entry};
 
 use crate::attempt::attempt_statement;
 use crate::configuration::{Configuration, Entered};
 use crate::entry::Entry;
-use crate::front::Filling;
+use crate::front::{Breach, Decision};
 use crate::grid::Grid;
 use crate::row::{arrive, entered_at};
 use crate::scene::{Position, Scene};
@@ -249,25 +249,23 @@ fn step_rows<K: Kind>(
     Ok(())
 }
 
-// Fills a position from those before it, from the scene's first on.
+// Fills a position from those before it, from the scene's first on. It decides where a run reaches `error`, or else where the position spills.
 pub(crate) fn fill_position<K: Kind>(
     grid: &mut Grid<K::Value>,
     position: &Position<'_, K::Value>,
-) -> Filling
-    ensures safe { Safe (position.now.number % 5) grid.old grid.new (first_error result) }
+) -> Result<(), Decision>
+    ensures safe { Safe (position.now.number % 5) grid.old grid.new (shown_entry result) }
     ensures fills { (P : TheTable) (k : Registers) (L : List Happening) (w : World) → Watched K.Kind.class position.now.scene.now P w
         → Ready K.Kind.class grid.old.cap (grid_of grid.old) position.now.scene.now.base position.now.number P k L w
         → Fills K.Kind.class grid.old.cap (grid_of grid.old) (grid_of grid.new) position.now.number P k w result }
 {
     grid.front.spilled = false;
-    match step_rows::<K>(grid, position) {
-        Err(entry) => Filling::Broken(entry),
-        Ok(()) => {
-            if grid.front.spilled {
-                Filling::Spilled
-            } else {
-                Filling::Stands
-            }
-        }
+    if let Err(last) = step_rows::<K>(grid, position) {
+        let position = position.number;
+        return Err(Decision::Breaks(Breach { position, last }));
     }
+    if grid.front.spilled {
+        return Err(Decision::Spills);
+    }
+    Ok(())
 }

@@ -23,30 +23,19 @@ pub(crate) struct Mark {
     pub(crate) entry: u16,
 }
 
-// What a position is once it is filled; where `error` is reached, by which step from which entry.
-// Kept one enum of three answers: a Result would need a second enum for its two reasons, and its one reader would match the same three cases.
-#[derive(Clone, Copy)]
-pub enum Filling {
-    Broken(Entry),
-    Spilled,
-    Stands,
-}
-
 // Where a run reaches `error`, and the last step of the run that is shown.
-#[derive(Clone, Copy)]
+#[derive(Clone, Copy, Debug)]
 pub struct Breach {
     pub position: usize,
     pub last: Entry,
 }
 
-// What the deciding rule comes to.
-// Kept `GoesOn` among the answers: the deciding rule and its readers name all four, so a Result would only part them for `judge` to use `?`.
-#[derive(Clone, Copy)]
-pub enum Ruling {
+// What the deciding rule decides: a run reaches `error`, a position has more configurations than it may have, or the book has too few entries.
+#[derive(Clone, Copy, Debug)]
+pub enum Decision {
     Breaks(Breach),
     Spills,
     Overfills,
-    GoesOn,
 }
 
 impl Front {

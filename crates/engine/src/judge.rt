@@ -1,29 +1,25 @@
 // The deciding rule, position by position.
-ghost use Rattle.std.specs.Prelude.{◌≡◌, ℕ, ◌+◌, ◌%◌, ◌<◌, List, length, nat_lt, vec_len};
+ghost use Rattle.std.specs.Prelude.{◌≡◌, ℕ, ◌+◌, ◌%◌, ◌<◌, List, length, vec_len, Err};
 ghost use Rattle.topl.specs.Table.{Event as Happening, Table as TheTable};
 ghost use Rattle.topl.specs.Runs.{Registers, World};
 ghost use Rattle.engine.specs.declared.front.Breach as B;
-ghost use Rattle.engine.specs.declared.front.Ruling.TheVariants.{Breaks};
+ghost use Rattle.engine.specs.declared.front.Decision.TheVariants.{Breaks};
 ghost use Rattle.engine.specs.Grids.{grid_of};
-ghost use Rattle.engine.specs.Fills.{Ready, Safe, Watched};
-ghost use Rattle.engine.specs.Judging.{Balance, Judged, Start, Decided, shown_entry};
+ghost use Rattle.engine.specs.Fills.{Ready, Safe, Watched, shown_entry};
+ghost use Rattle.engine.specs.Judging.{Balance, Judged, Start, Decided};
 
 use crate::fill::fill_position;
-use crate::front::{Breach, Filling, Ruling};
+use crate::front::Decision;
 use crate::grid::Grid;
 use crate::scene::{Position, Scene};
 use crate::slot::Slot;
 use kinds::kind::Kind;
 
-// Are more entries needed than there is room for?
-fn is_over(need: usize, room: usize) -> bool
-    ensures { result ≡ nat_lt room need }
-{
-    room < need
-}
-
 // Fills a position, and rules on it: `error` first, then the cap, then the book.
-fn judge_position<K: Kind>(grid: &mut Grid<K::Value>, position: &Position<'_, K::Value>) -> Ruling
+fn judge_position<K: Kind>(
+    grid: &mut Grid<K::Value>,
+    position: &Position<'_, K::Value>,
+) -> Result<(), Decision>
     ensures safe { Safe (position.now.number % 5) grid.old grid.new (shown_entry result) }
     ensures rules { (P : TheTable) (k : Registers) (L : List Happening) (w : World) → Watched K.Kind.class position.now.scene.now P w
         → Ready K.Kind.class grid.old.cap (grid_of grid.old) position.now.scene.now.base position.now.number P k L w
@@ -33,29 +29,23 @@ fn judge_position<K: Kind>(grid: &mut Grid<K::Value>, position: &Position<'_, K:
     let slot = Slot::of(position.number);
     let used = grid.book.used;
     let before = grid.front.counts[slot.at];
-    match fill_position::<K>(grid, position) {
-        Filling::Broken(last) => {
-            let position = position.number;
-            Ruling::Breaks(Breach { position, last })
-        }
-        Filling::Spilled => Ruling::Spills,
-        Filling::Stands => {
-            let need = (used + grid.front.counts[slot.at]).saturating_sub(before);
-            if is_over(need, grid.book.room()) {
-                Ruling::Overfills
-            } else {
-                Ruling::GoesOn
-            }
-        }
+    fill_position::<K>(grid, position)?;
+    let need = (used + grid.front.counts[slot.at]).saturating_sub(before);
+    if grid.book.room() < need {
+        return Err(Decision::Overfills);
     }
+    Ok(())
 }
 
-// The lowest of the scene's positions at which something is to be decided.
-pub(crate) fn judge<K: Kind>(grid: &mut Grid<K::Value>, scene: &Scene<'_, K::Value>) -> Ruling
+// Goes through the scene's positions, lowest first, up to one at which something is decided.
+pub(crate) fn judge<K: Kind>(
+    grid: &mut Grid<K::Value>,
+    scene: &Scene<'_, K::Value>,
+) -> Result<(), Decision>
     ensures cap { grid.new.cap ≡ grid.old.cap }
     ensures board { vec_len grid.new.board ≡ vec_len grid.old.board }
     ensures long { length grid.new.book.entries.items ≡ length grid.old.book.entries.items }
-    ensures known { (b : B.Breach) → result ≡ Breaks b → b.last.parent < grid.new.book.used }
+    ensures known { (b : B.Breach) → result ≡ Err (Breaks b) → b.last.parent < grid.new.book.used }
     ensures decides { (P : TheTable) (k : Registers) (L : List Happening) (w : World) → Watched K.Kind.class scene.now P w
         → Start K.Kind.class grid.old.cap (grid_of grid.old) scene.now.base (scene.now.base + length scene.now.events.now) P k L w
         → Decided K.Kind.class grid.old.cap (grid_of grid.old) (grid_of grid.new) scene.now.base (scene.now.base + length scene.now.events.now) P k L w result }
@@ -66,12 +56,7 @@ pub(crate) fn judge<K: Kind>(grid: &mut Grid<K::Value>, scene: &Scene<'_, K::Val
             scene: &*scene,
             number,
         };
-        match judge_position::<K>(grid, &position) {
-            Ruling::GoesOn => {}
-            other => {
-                return other;
-            }
-        }
+        judge_position::<K>(grid, &position)?;
     }
-    Ruling::GoesOn
+    Ok(())
 }

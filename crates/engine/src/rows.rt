@@ -1,9 +1,8 @@
 // The rows and the book of a watch, for any caller.
-ghost use Rattle.std.specs.Prelude.{◌≡◌, ℕ, ◌<◌, List, [], ◌∷◌, ◌++◌, map, length, vec_len};
+ghost use Rattle.std.specs.Prelude.{◌≡◌, ℕ, ◌<◌, List, [], ◌∷◌, ◌++◌, map, length, vec_len, Ok};
 ghost use Rattle.topl.specs.Table.{Event as Happening};
 ghost use Rattle.topl.specs.Runs.{Registers, so_far, closing};
 ghost use Rattle.topl.specs.Theorems.{Steady, seen as shown};
-ghost use Rattle.engine.specs.declared.front.Ruling.TheVariants.{GoesOn};
 ghost use Rattle.engine.specs.Trails.{room_of, steps_by, Written};
 ghost use Rattle.engine.specs.Meant.{meant};
 ghost use Rattle.engine.specs.States.{Follows, ComesTo, Stays};
@@ -11,7 +10,7 @@ ghost use Rattle.engine.specs.Opening.{Opens};
 
 use crate::book::{Book, MOST_ENTRIES};
 use crate::entry::Entry;
-use crate::front::{Front, Ruling};
+use crate::front::{Decision, Front};
 use crate::grid::Grid;
 use crate::mode::Mode;
 use crate::open::open_rows;
@@ -94,14 +93,14 @@ impl<K: Kind> Rows<K> {
         judged: usize,
         id: u32,
         values: &[K::Value],
-    ) -> Ruling
+    ) -> Result<(), Decision>
         ensures stays { Stays self.old.state self.new.state result }
         ensures rules { (k : Registers) (L : List Happening)
             → Steady (meant table.now) k self.old.state.grid.cap (room_of self.old.state.grid.book.entries.items) L
             → judged ≡ length L
             → Follows K.Kind.class self.old.state (meant table.now) k L
             → ComesTo self.old.state self.new.state (meant table.now) k L (so_far (L ++ shown K.Kind.class id values.now ∷ [])) result
-            × (result ≡ GoesOn → Follows K.Kind.class self.new.state (meant table.now) k (L ++ shown K.Kind.class id values.now ∷ [])) }
+            × (result ≡ Ok tt → Follows K.Kind.class self.new.state (meant table.now) k (L ++ shown K.Kind.class id values.now ∷ [])) }
     {
         let judged = judged.min(MOST_ENTRIES);
         let state = &mut self.state;
@@ -112,7 +111,7 @@ impl<K: Kind> Rows<K> {
     }
 
     // The list has ended after so many judged events.
-    pub fn end_list(&mut self, table: &Table, judged: usize) -> Ruling
+    pub fn end_list(&mut self, table: &Table, judged: usize) -> Result<(), Decision>
         ensures stays { Stays self.old.state self.new.state result }
         ensures rules { (k : Registers) (L : List Happening)
             → Steady (meant table.now) k self.old.state.grid.cap (room_of self.old.state.grid.book.entries.items) L

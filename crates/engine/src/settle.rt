@@ -9,7 +9,7 @@ ghost use Rattle.engine.specs.Judging.{Start, Decided};
 ghost use Rattle.engine.specs.Windows.{Remembers};
 ghost use Rattle.engine.specs.States.{Stays};
 
-use crate::front::Ruling;
+use crate::front::Decision;
 use crate::judge::judge;
 use crate::mode::Mode;
 use crate::property::Table;
@@ -23,7 +23,7 @@ pub(crate) fn settle<K: Kind>(
     table: &Table,
     mode: Mode,
     base: usize,
-) -> Ruling
+) -> Result<(), Decision>
     requires { base ≤ 16384 }
     ensures stays { Stays s.old s.new result }
     ensures window { s.new.window ≡ s.old.window }

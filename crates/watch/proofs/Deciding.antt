@@ -1,5 +1,5 @@
 -- What a feed and a close that the deciding rule settles do to the ledger that a watch shows.
-use Rattle.std.proofs.Common.{◌≡◌, ℕ, ◌<◌, min, List, [], ◌∷◌, ◌++◌, length, Some, None, Ok, vec_items, Result, sym, refl, ap, ◌∙◌, subst, arith, length-append, Bor}
+use Rattle.std.proofs.Common.{◌≡◌, ℕ, ◌<◌, min, List, [], ◌∷◌, ◌++◌, length, Some, None, Ok, Err, vec_items, Result, sym, refl, ap, ◌∙◌, subst, arith, length-append, Bor}
 use Rattle.kinds.specs.declared.phase.Phase.TheVariants as phases
 use Rattle.kinds.specs.declared.refusal.Layer.TheVariants.{Watch}
 use Rattle.kinds.specs.declared.refusal.Reason.TheVariants.{Watch as of_watch}
@@ -19,8 +19,8 @@ use Rattle.topl.proofs.Lasting.{lasting}
 use Rattle.engine.specs.declared.property.Table.{Table}
 use Rattle.engine.specs.Meant.{meant}
 use Rattle.engine.specs.declared.entry.Entry.{Entry}
-use Rattle.engine.specs.declared.front.Ruling.{Ruling}
-use Rattle.engine.specs.declared.front.Ruling.TheVariants.{Breaks, Spills, Overfills, GoesOn}
+use Rattle.engine.specs.declared.front.Decision.{Decision}
+use Rattle.engine.specs.declared.front.Decision.TheVariants.{Breaks, Spills, Overfills}
 use Rattle.engine.specs.declared.state.State.{State}
 use Rattle.engine.specs.Judging.{ruled}
 use Rattle.engine.specs.States.{Follows, ComesTo, Stays}
@@ -56,7 +56,7 @@ module _ {V : Type 0} (class : V → Class) (s : State V) (h : Held) (l : Ledger
     few = let b = bounded l.table (registers_of l) l.cap (min l.book 16384) l.judged means.1 in omega arith
 
     -- the rows' ruling is the ledger's
-    rule_is : (t : State V) (w : World) (d : Ruling) → ComesTo s t l.table (registers_of l) l.judged w d → rule l w ≡ ruled d
+    rule_is : (t : State V) (w : World) (d : Result (Unit {0}) Decision) → ComesTo s t l.table (registers_of l) l.judged w d → rule l w ≡ ruled d
     unfolding rule
     rule_is t w d C = sym (
         C.rules ∙ (λ j. D.decides l.table (registers_of l) (sh.cap run j) (min (sh.book j) 16384) (so_far l.judged) w)
@@ -90,7 +90,7 @@ module _ {V : Type 0} (class : V → Class) (s : State V) (h : Held) (l : Ledger
     told_idle End = refl
 
     -- the two refusals by the rule: the phase turns, and nothing else
-    stopped : (q : Stage) (n : WatchReason) (t : State V) (k : Held) (r : Result Standing Refusal) (d : Ruling) → (phase_of q ≡ phases.Running → ⊥) → (phase_of q ≡ phases.Broken → ⊥) → position_of q ≡ None →
+    stopped : (q : Stage) (n : WatchReason) (t : State V) (k : Held) (r : Result Standing Refusal) (d : Result (Unit {0}) Decision) → (phase_of q ≡ phases.Running → ⊥) → (phase_of q ≡ phases.Broken → ⊥) → position_of q ≡ None →
         Stays s t d → k ≡ in_stage q h → r ≡ ruled_out h n → Sound (turned l (phase_of q) (world_of l)) → Agrees class t k (turned l (phase_of q) (world_of l)) × (told r ≡ refuse l (of_watch n))
     stopped q n t k r d runs breaks none stays e f S = (
       subst (λ (z : Held). Agrees class t z (turned l (phase_of q) (world_of l))) (sym e) (record {
@@ -112,9 +112,9 @@ module _ {V : Type 0} (class : V → Class) (s : State V) (h : Held) (l : Ledger
 
     module _ (t : State V) (k : Held) (asked : Asked) (w : World) (r : Result Standing Refusal) (fills : length w.events ≡ counted asked (length l.judged)) where
       -- a turn of the watch is one of the ledger
-      turned_by : (d : Ruling) → Stays s t d → ComesTo s t l.table (registers_of l) l.judged w d → (d ≡ GoesOn → idle asked ≡ phases.Running → Follows class t l.table (registers_of l) w.events) →
+      turned_by : (d : Result (Unit {0}) Decision) → Stays s t d → ComesTo s t l.table (registers_of l) l.judged w d → (d ≡ Ok tt → idle asked ≡ phases.Running → Follows class t l.table (registers_of l) w.events) →
           Turned h k d asked r → ((o : Ledger × Answer) → Settles l w (idle asked) (ruled d) o → Sound o.0) → (m : Ledger) × Agrees class t k m × Settles l w (idle asked) (ruled d) (m, told r)
-      turned_by (Breaks a) stays C F u S =
+      turned_by (Err (Breaks a)) stays C F u S =
           let path = steps_by (vec_items t.grid.book.entries) a.last in
           let m = broken_at l w a.position path in
           let says_so : told r ≡ says phases.Broken (Some a.position) = ap told u.1 in
@@ -136,15 +136,15 @@ module _ {V : Type 0} (class : V → Class) (s : State V) (h : Held) (l : Ledger
             }),
             o,
           )
-      turned_by Spills stays C F u S =
+      turned_by (Err Spills) stays C F u S =
           let m = turned l phases.Spilled (world_of l) in
-          let z = stopped Spilled IsSpilled t k r Spills (λ e. let z : ◌≡◌ {A = ℕ} 0 1 = cc in omega arith) (λ e. let z : ◌≡◌ {A = ℕ} 0 1 = cc in omega arith) refl stays u.0 u.1 refl in
+          let z = stopped Spilled IsSpilled t k r (Err Spills) (λ e. let z : ◌≡◌ {A = ℕ} 0 1 = cc in omega arith) (λ e. let z : ◌≡◌ {A = ℕ} 0 1 = cc in omega arith) refl stays u.0 u.1 refl in
           (m, z.0, λ j. (m, z.1 j))
-      turned_by Overfills stays C F u S =
+      turned_by (Err Overfills) stays C F u S =
           let m = turned l phases.Full (world_of l) in
-          let z = stopped Full IsFull t k r Overfills (λ e. let z : ◌≡◌ {A = ℕ} 0 1 = cc in omega arith) (λ e. let z : ◌≡◌ {A = ℕ} 0 1 = cc in omega arith) refl stays u.0 u.1 refl in
+          let z = stopped Full IsFull t k r (Err Overfills) (λ e. let z : ◌≡◌ {A = ℕ} 0 1 = cc in omega arith) (λ e. let z : ◌≡◌ {A = ℕ} 0 1 = cc in omega arith) refl stays u.0 u.1 refl in
           (m, z.0, λ j. (m, z.1 j))
-      turned_by GoesOn stays C F u S =
+      turned_by (Ok _) stays C F u S =
           let m = turned l (idle asked) w in
           let o : Settles l w (idle asked) D.goes_on (m, told r) = λ j. (m, (ap told u.1 ∙ told_idle asked) j) in (
             m,
@@ -166,20 +166,20 @@ module _ {V : Type 0} (class : V → Class) (s : State V) (h : Held) (l : Ledger
           )
 
   -- what the rows promise of an event or of the end, at the table that was lent
-  abbrev pub Promise : T.Table → State V → ℕ → (List T.Event → World) → (State V → T.Table → Registers → List T.Event → Type 0) → Ruling → Type 0
+  abbrev pub Promise : T.Table → State V → ℕ → (List T.Event → World) → (State V → T.Table → Registers → List T.Event → Type 0) → Result (Unit {0}) Decision → Type 0
   Promise P t judged world Then d = (k : Registers) (L : List T.Event) → Steady P k s.grid.cap (room_of (vec_items s.grid.book.entries)) L → judged ≡ length L → Follows class s P k L →
       ComesTo s t P k L (world L) d × Then t P k L
 
-  pub feed_ruled : (t : State V) (k : Held) (e : T.Event) (x : Bor Table) (d : Ruling) (r : Result Standing Refusal) → h.stage ≡ Running x → event_reason (meant x.now) e ≡ None →
-      Stays s t d → Promise (meant x.now) t h.judged (λ L. so_far (L ++ (e ∷ []))) (λ t P k L. d ≡ GoesOn → Follows class t P k (L ++ (e ∷ []))) d → Turned h k d Event r →
+  pub feed_ruled : (t : State V) (k : Held) (e : T.Event) (x : Bor Table) (d : Result (Unit {0}) Decision) (r : Result Standing Refusal) → h.stage ≡ Running x → event_reason (meant x.now) e ≡ None →
+      Stays s t d → Promise (meant x.now) t h.judged (λ L. so_far (L ++ (e ∷ []))) (λ t P k L. d ≡ Ok tt → Follows class t P k (L ++ (e ∷ []))) d → Turned h k d Event r →
       (m : Ledger) × Agrees class t k m × Feeds l e (m, told r)
   feed_ruled t k e x d r p free stays rules u =
       let run = running x p in
       let tab : l.table ≡ meant x.now = sh.lent x p in
       let w = with_event l e in
       let none : event_reason l.table e ≡ None = ap (λ (P : T.Table). event_reason P e) tab ∙ free in
-      let promise : Promise l.table t h.judged (λ L. so_far (L ++ (e ∷ []))) (λ t P k L. d ≡ GoesOn → Follows class t P k (L ++ (e ∷ []))) d =
-      subst (λ (P : T.Table). Promise P t h.judged (λ L. so_far (L ++ (e ∷ []))) (λ t P k L. d ≡ GoesOn → Follows class t P k (L ++ (e ∷ []))) d) (sym tab) rules in
+      let promise : Promise l.table t h.judged (λ L. so_far (L ++ (e ∷ []))) (λ t P k L. d ≡ Ok tt → Follows class t P k (L ++ (e ∷ []))) d =
+      subst (λ (P : T.Table). Promise P t h.judged (λ L. so_far (L ++ (e ∷ []))) (λ t P k L. d ≡ Ok tt → Follows class t P k (L ++ (e ∷ []))) d) (sym tab) rules in
       let came = promise (registers_of l) l.judged (steady run) sh.count (sh.follows run) in
       let is = rule_is run t w d came.0 in
       let n = few run in
@@ -188,7 +188,7 @@ module _ {V : Type 0} (class : V → Class) (s : State V) (h : Held) (l : Ledger
       let z = turned_by run t k Event w r (omega arith) d stays came.0 (λ g v. came.1 g) u (λ o y. lasting.feed_sound l e o sh.sound (feeds o y)) in
       (z.0, z.1, feeds (z.0, told r) z.2)
 
-  pub close_ruled : (t : State V) (k : Held) (x : Bor Table) (d : Ruling) (r : Result Standing Refusal) → h.stage ≡ Running x → Stays s t d →
+  pub close_ruled : (t : State V) (k : Held) (x : Bor Table) (d : Result (Unit {0}) Decision) (r : Result Standing Refusal) → h.stage ≡ Running x → Stays s t d →
       ((k : Registers) (L : List T.Event) → Steady (meant x.now) k s.grid.cap (room_of (vec_items s.grid.book.entries)) L → h.judged ≡ length L → Follows class s (meant x.now) k L → ComesTo s t (meant x.now) k L (closing L) d) →
       Turned h k d End r → (m : Ledger) × Agrees class t k m × Closes l (m, told r)
   close_ruled t k x d r p stays rules u =

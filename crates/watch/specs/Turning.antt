@@ -7,8 +7,8 @@ use Rattle.kinds.specs.declared.refusal.Reason.TheVariants.{Watch as of_watch}
 use Rattle.kinds.specs.declared.watch_reason.WatchReason.{WatchReason}
 use Rattle.kinds.specs.declared.watch_reason.WatchReason.TheVariants.{IsSpilled, IsFull}
 use Rattle.kinds.specs.declared.refusal.Refusal.{Refusal}
-use Rattle.engine.specs.declared.front.Ruling.{Ruling}
-use Rattle.engine.specs.declared.front.Ruling.TheVariants.{Breaks, Spills, Overfills, GoesOn}
+use Rattle.engine.specs.declared.front.Decision.{Decision}
+use Rattle.engine.specs.declared.front.Decision.TheVariants.{Breaks, Spills, Overfills}
 use Rattle.watch.specs.declared.held.Held.{Held}
 use Rattle.watch.specs.declared.held.Stage.{Stage}
 use Rattle.watch.specs.declared.held.Stage.TheVariants.{Broken, Spilled, Full, Kept}
@@ -45,8 +45,8 @@ abbrev pub ruled_out : Held → WatchReason → Result Standing Refusal
 ruled_out h n = Err (record { layer = Watch; reason = of_watch n; place = h.judged })
 
 -- what is kept, before and after, with what is told
-abbrev pub Turned : Held → Held → Ruling → Asked → Result Standing Refusal → Type 0
-Turned h k (Breaks b) asked r = (k ≡ record { stage = Broken b; judged = counted asked h.judged }) × (r ≡ Ok (standings.Broken b.position))
-Turned h k Spills asked r = (k ≡ in_stage Spilled h) × (r ≡ ruled_out h IsSpilled)
-Turned h k Overfills asked r = (k ≡ in_stage Full h) × (r ≡ ruled_out h IsFull)
-Turned h k GoesOn asked r = (k ≡ record { stage = rests asked h.stage; judged = counted asked h.judged }) × (r ≡ Ok (stands asked))
+abbrev pub Turned : Held → Held → Result (Unit {0}) Decision → Asked → Result Standing Refusal → Type 0
+Turned h k (Ok _) asked r = (k ≡ record { stage = rests asked h.stage; judged = counted asked h.judged }) × (r ≡ Ok (stands asked))
+Turned h k (Err (Breaks b)) asked r = (k ≡ record { stage = Broken b; judged = counted asked h.judged }) × (r ≡ Ok (standings.Broken b.position))
+Turned h k (Err Spills) asked r = (k ≡ in_stage Spilled h) × (r ≡ ruled_out h IsSpilled)
+Turned h k (Err Overfills) asked r = (k ≡ in_stage Full h) × (r ≡ ruled_out h IsFull)

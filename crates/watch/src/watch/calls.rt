@@ -14,7 +14,7 @@ use crate::standing::{Asked, Standing, Verdict};
 use crate::watch::Watch;
 use engine::book::MOST_ENTRIES;
 use engine::entry::Entry;
-use engine::front::Ruling;
+use engine::front::Decision;
 use engine::property::Table;
 use engine::rows::Rows;
 use kinds::kind::Kind;
@@ -112,29 +112,29 @@ impl<'a, K: Kind> Watch<'a, K> {
     }
 
     // Sets the stage by the deciding rule's word.
-    fn turn(&mut self, ruling: Ruling, asked: Asked) -> Result<Standing, Refusal>
+    fn turn(&mut self, ruling: Result<(), Decision>, asked: Asked) -> Result<Standing, Refusal>
         requires { phase_of self.old.held.stage ≡ Running }
         ensures { Turned self.old.held self.new.held ruling asked result × (self.new.rows ≡ self.old.rows) }
     {
         match ruling {
-            Ruling::Spills => {
+            Ok(()) => {
+                self.held.judged = counted(self.held.judged, asked);
+                self.go_on(asked)
+            }
+            Err(Decision::Spills) => {
                 self.held.stage = Stage::Spilled;
                 Err(self.refuse(WatchReason::IsSpilled))
             }
-            Ruling::Overfills => {
+            Err(Decision::Overfills) => {
                 self.held.stage = Stage::Full;
                 Err(self.refuse(WatchReason::IsFull))
             }
-            Ruling::Breaks(breach) => {
+            Err(Decision::Breaks(breach)) => {
                 self.held = Held {
                     stage: Stage::Broken(breach),
                     judged: counted(self.held.judged, asked),
                 };
                 Ok(Standing::Broken(breach.position))
-            }
-            Ruling::GoesOn => {
-                self.held.judged = counted(self.held.judged, asked);
-                self.go_on(asked)
             }
         }
     }

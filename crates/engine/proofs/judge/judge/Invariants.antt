@@ -4,7 +4,8 @@ use Rattle.topl.specs.Runs.{Registers, World}
 use Rattle.engine.specs.Trails.{room_of}
 use Rattle.engine.specs.Grids.{grid_of}
 use Rattle.engine.specs.Fills.{Watched}
-use Rattle.engine.specs.Judging.{Start, Along}
+use Rattle.engine.specs.Judging.{Start}
+use Rattle.engine.proofs.Judging.{Along}
 use Rattle.engine.proofs.judge.judge.Given as goal
 
 abbrev pub invariant-loop-number : goal.invariant-loop-number
