@@ -4,7 +4,7 @@ use Rattle.std.proofs.lemmas.List.{append-nil, take_more, drop_more, take-append
 use Rattle.std.proofs.lemmas.Bool.{cond-true, cond-false, eq-eqb, ne_eqb}
 use Rattle.topl.specs.Lists.{each}
 use Rattle.topl.specs.Table.{Statement, Table, count_from, error, implied, numbered, span}
-use Rattle.topl.specs.Runs.{Configuration, Landing, Registers, World, calm, calms, has_come, landing_of, lands, moves, outcome_of, passes, passing, quiet, skips}
+use Rattle.topl.specs.Runs.{Configuration, Landing, Outcome, Registers, World, calm, calms, fails, hangs, has_come, landing_of, lands, moves, outcome_of, passes, passing, quiet, skips}
 use Rattle.topl.specs.Rows.{incoming, landed}
 use Rattle.topl.specs.Deciding.{any_error}
 
