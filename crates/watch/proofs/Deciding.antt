@@ -1,5 +1,6 @@
 -- What a feed and a close that the deciding rule settles do to the ledger that a watch shows.
 use Rattle.std.proofs.Common.{◌≡◌, ℕ, ◌<◌, min, List, [], ◌∷◌, ◌++◌, length, Some, None, Ok, Err, vec_items, Result, sym, refl, ap, ◌∙◌, subst, arith, length-append, Bor}
+use Rattle.kinds.specs.declared.phase.Phase.{Phase}
 use Rattle.kinds.specs.declared.phase.Phase.TheVariants as phases
 use Rattle.kinds.specs.declared.refusal.Layer.TheVariants.{Watch}
 use Rattle.kinds.specs.declared.refusal.Reason.TheVariants.{Watch as of_watch}
@@ -34,8 +35,13 @@ use Rattle.engine.specs.declared.front.Breach.{Breach}
 use Rattle.watch.specs.declared.held.Stage.{Stage}
 use Rattle.watch.specs.declared.held.Stage.TheVariants.{Running, Broken, Spilled, Full}
 use Rattle.watch.specs.Stages.{phase_of, position_of}
-use Rattle.watch.specs.Turning.{counted, idle, rests, stands, in_stage, ruled_out, Turned}
+use Rattle.watch.specs.Turning.{counted, rests, stands, in_stage, ruled_out, Turned}
 use Rattle.watch.specs.Shows.{Agrees}
+
+-- the phase where nothing decides
+abbrev pub idle : Asked → Phase
+idle Event = phases.Running
+idle End = phases.Kept
 
 module _ {V : Type 0} (class : V → Class) (s : State V) (h : Held) (l : Ledger) (sh : Agrees class s h l) where
   running : (x : Bor Table) → h.stage ≡ Running x → l.phase ≡ phases.Running

@@ -1,7 +1,5 @@
 -- How the deciding rule's word turns what a watch keeps.
 use Rattle.std.specs.Prelude.{◌≡◌, ℕ, ◌+◌, min, Ok, Err, Result}
-use Rattle.kinds.specs.declared.phase.Phase.{Phase}
-use Rattle.kinds.specs.declared.phase.Phase.TheVariants as phases
 use Rattle.kinds.specs.declared.refusal.Layer.TheVariants.{Watch}
 use Rattle.kinds.specs.declared.refusal.Reason.TheVariants.{Watch as of_watch}
 use Rattle.kinds.specs.declared.watch_reason.WatchReason.{WatchReason}
@@ -22,17 +20,12 @@ abbrev pub counted : Asked → ℕ → ℕ
 counted Event n = min n 16383 + 1
 counted End n = n
 
--- the phase where nothing decides
-abbrev pub idle : Asked → Phase
-idle Event = phases.Running
-idle End = phases.Kept
-
--- and what is told then
+-- what is told where nothing decides
 abbrev pub stands : Asked → Standing
 stands Event = standings.Running
 stands End = standings.Kept
 
--- the stage after, where nothing decides: an event leaves it as it is
+-- and the stage after: an event leaves it as it is
 abbrev pub rests : Asked → Stage → Stage
 rests Event q = q
 rests End q = Kept

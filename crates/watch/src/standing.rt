@@ -10,7 +10,7 @@ pub enum Standing {
 }
 
 // The phase, the count of judged events and, if it is broken, the position.
-// Kept beside each other: the phase is an answer whose name a definition gives, so it holds no position.
+// Kept the position beside the phase: `Phase` is the bare enum that is printed by its name, so it can carry none.
 #[derive(Clone, Copy)]
 pub struct Verdict {
     pub phase: Phase,

@@ -66,6 +66,7 @@ impl<'a, K: Kind> Watch<'a, K> {
         ensures { Turns self.old (λ l r. Begins l (meant table.now) (map K.Kind.class constants.now) cap r) (began result) self.new }
     {
         self.may_begin(constants.len(), table.constants().len(), cap)?;
+        // Kept a `let .. else`: by `or` and `?` it stays open that a refused begin changes nothing (goal `returns-in_err-or`).
         let Ok(()) = self.rows.open(table, constants, cap) else {
             return Err(self.refuse(WatchReason::SmallBoard));
         };
@@ -140,7 +141,7 @@ impl<'a, K: Kind> Watch<'a, K> {
     }
 
     // Where nothing decides, an event leaves the watch running, and at the end of the list the property is kept.
-    // Kept a match on the stage and the call: both say what follows, and the pairs that cannot come are proved unreachable.
+    // Kept a match on the watch's own stage and the call, which changes the stage in place: a fixed form of the project; the pairs that cannot come are proved unreachable.
     fn go_on(&mut self, asked: Asked) -> Result<Standing, Refusal>
         requires { phase_of self.old.held.stage ≡ Running }
         ensures { (self.new.held ≡ in_stage (rests asked self.old.held.stage) self.old.held) × (result ≡ Ok (stands asked)) × (self.new.rows ≡ self.old.rows) }

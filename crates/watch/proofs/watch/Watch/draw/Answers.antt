@@ -15,12 +15,10 @@ returns-in_err-standing-in-Some g c l sh =
     let n = g.S.Source.ending c.args.source.now in
     let ks = g.S.Source.waiting c.next.new.self in
     let n' = g.S.Source.ending c.next.new.self in
-    let e = c.in-Some.event in
     let f = c.in_err-standing-in-Some.field-0.0 in
-    let took : (hs ≡ says e ∷ ks) × (n' ≡ n) = subst (λ r. Next hs n r ks n') (c.in_ok-event.was ∙ ap Ok c.in-Some.is) c.next.ensures in
     let d = c.in_err-standing-in-Some.ensures l sh in
     let p = err_from_is_err_and c.from_residual-in_err-standing-in-Some.result c.from_residual-in_err-standing-in-Some.ensures.1 in
-    let drawn = draw_fed g.K.Kind.class w.rows.state w.held l sh c.in_ok-running.field-0 c.in_ok-running.ensures hs ks n n' (says e) c.id.result c.values.result.now d.0 (refused f) took.0 took.1 c.id.ensures c.values.ensures d.2 in
+    let drawn = draw_fed g.K.Kind.class w.rows.state w.held l sh c.in_ok-running.field-0 c.in_ok-running.ensures hs ks n n' c.next.result c.in-Some.event c.id.result c.values.result.now d.0 (refused f) c.next.ensures (c.in_ok-event.was ∙ ap Ok c.in-Some.is) c.id.ensures c.values.ensures d.2 in
     (d.0, d.1, subst (λ r. Draws l (meaning g.K.Kind.class hs n) (d.0, drew r) (meaning g.K.Kind.class ks n')) (sym (p.1 ∙ ap Err p.2)) drawn)
 
 pub returns-in_ok-standing-in-Some : goal.returns-in_ok-standing-in-Some
@@ -30,7 +28,5 @@ returns-in_ok-standing-in-Some g c l sh =
     let n = g.S.Source.ending c.args.source.now in
     let ks = g.S.Source.waiting c.next.new.self in
     let n' = g.S.Source.ending c.next.new.self in
-    let e = c.in-Some.event in
-    let took : (hs ≡ says e ∷ ks) × (n' ≡ n) = subst (λ r. Next hs n r ks n') (c.in_ok-event.was ∙ ap Ok c.in-Some.is) c.next.ensures in
     let d = c.in_ok-standing-in-Some.ensures l sh in
-    (d.0, d.1, draw_fed g.K.Kind.class w.rows.state w.held l sh c.in_ok-running.field-0 c.in_ok-running.ensures hs ks n n' (says e) c.id.result c.values.result.now d.0 (stands_for c.in_ok-standing-in-Some.standing) took.0 took.1 c.id.ensures c.values.ensures d.2)
+    (d.0, d.1, draw_fed g.K.Kind.class w.rows.state w.held l sh c.in_ok-running.field-0 c.in_ok-running.ensures hs ks n n' c.next.result c.in-Some.event c.id.result c.values.result.now d.0 (stands_for c.in_ok-standing-in-Some.standing) c.next.ensures (c.in_ok-event.was ∙ ap Ok c.in-Some.is) c.id.ensures c.values.ensures d.2)
