@@ -1,5 +1,5 @@
 // Kind 2, labels: a number from 1 to 16, then that many letters, digits or hyphens; the case of letters does not count.
-ghost use Rattle.std.specs.Prelude.{◌≡◌, ℕ, ◌≤◌, true, length, Decides, Result, ◌==◌};
+ghost use Rattle.std.specs.Prelude.{◌≡◌, ℕ, ◌≤◌, true, not, length, Decides, Result, ◌==◌};
 ghost use Rattle.kinds.specs.Labels.{Labelled, all_label, label_class, label_of, label_read, no_label, spelling};
 ghost use Rattle.kinds.specs.Readings.{Reading};
 ghost use Rattle.kinds.specs.declared.label.Label.{Label};
@@ -78,7 +78,11 @@ impl Label {
     pub fn text(&self) -> &[u8]
         ensures { result.now ≡ spelling self.now }
     {
-        match self.text.iter().rposition(|b| *b != 0) {
+        let last = self
+            .text
+            .iter()
+            .rposition(|b| -> bool ensures { result ≡ not (b.now == 0) } { *b != 0 });
+        match last {
             Some(last) => &self.text[..=last],
             None => &[],
         }
