@@ -78,10 +78,11 @@ impl Label {
     pub fn text(&self) -> &[u8]
         ensures { result.now ≡ spelling self.now }
     {
-        let last = self
-            .text
-            .iter()
-            .rposition(|b| -> bool ensures { result ≡ not (b.now == 0) } { *b != 0 });
+        let last = self.text.iter().rposition(
+            |b| -> bool
+                ensures { result ≡ not (b.now == 0) }
+            { *b != 0 },
+        );
         match last {
             Some(last) => &self.text[..=last],
             None => &[],
