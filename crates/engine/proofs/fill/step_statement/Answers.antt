@@ -7,6 +7,7 @@ use Rattle.engine.specs.Trails.{steps_by}
 use Rattle.engine.specs.Fronts.{configuration, stands_for}
 use Rattle.engine.specs.Fills.{Brings}
 use Rattle.engine.proofs.Matchers.{span_is, outcome_is}
+use Rattle.engine.proofs.Attempts.{leads_nowhere}
 use Rattle.engine.proofs.Fills.{brings_none}
 use Rattle.engine.proofs.fill.step_statement.Goals as goal
 
@@ -52,5 +53,5 @@ returns-in-Fails-clause-brings g c P k w W m r =
     let d = stands_for class c.args.at.now.configuration in
     let base = c.args.position.now.scene.now.base in
     let p = c.args.position.now.number in
-    let h = outcome_is t.source t.target t.events.now t.some _ d.registers _ (c.in-Fails.ensures (drop base w.events) W.events) in
-    brings_none class (p % 5) P k w p (omega arith) c.args.grid.now _ (lands_not w base d (t.number, T) p (ap (landing_of base (t.number, T)) (sym h)))
+    let h = outcome_is t.source t.target t.events.now t.some _ d.registers _ (c.attempt_statement.ensures (drop base w.events) W.events) in
+    brings_none class (p % 5) P k w p (omega arith) c.args.grid.now _ (lands_not w base d (t.number, T) p (ap (landing_of base (t.number, T)) (sym h) ∙ leads_nowhere class base (t.number, T) c.attempt_statement.result c.in-Fails.is))
