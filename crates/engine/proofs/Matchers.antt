@@ -2,6 +2,7 @@
 use Rattle.std.proofs.Common.{◌≡◌, ℕ, ◌+◌, ◌<◌, ◌≤◌, List, ◌∷◌, map, length, get_or, drop, sym, ap, ◌∙◌, arith}
 use Rattle.std.proofs.lemmas.List.{get_or-map, drop_more, length-map}
 use Rattle.topl.specs.Table as T
+use Rattle.topl.specs.Runs.{Outcome, Registers, fares}
 use Rattle.engine.specs.declared.table.Matcher as M
 use Rattle.engine.specs.Views.{matcher, over}
 
@@ -18,3 +19,7 @@ module _ (source target : ℕ) (ms : List M.Matcher) (some : 1 ≤ length ms) wh
 
   pub span_is : T.span (over source target ms) ≡ length ms
   span_is = ap length matchers_are ∙ length-map ms matcher
+
+  -- how it fares is how they do
+  pub outcome_is : (o : Outcome) (s : Registers) (es : List T.Event) → o ≡ fares (map matcher ms) s es → o ≡ fares (T.matchers (over source target ms)) s es
+  outcome_is o s es e = e ∙ ap (λ z. fares z s es) (sym matchers_are)

@@ -60,43 +60,46 @@ module _ (P : T.Table) (w : World) (q : ℕ) (d : Configuration) (p : ℕ) where
 pub rows_apart : (q p : ℕ) → q < p → p ≤ q + 4 → q % 5 ≡ p % 5 → ⊥
 rows_apart q p l near e = omega arith
 
--- what the moves from the configurations of a position bring, one by one
-module _ (P : T.Table) (w : World) (q p : ℕ) {V : Type 0} (class : V → Class) (g : G.Grid V) (source : ℕ) where
+-- what the moves from the configurations at q bring to p, one by one
+module _ (P : T.Table) (w : World) (q p : ℕ) {V : Type 0} (class : V → Class) (g : G.Grid V) where
   -- what the first of them bring to p
   abbrev pub brought_from : ℕ → List Configuration
-  brought_from i = each (λ c. landed p (moves P w q c)) (take i (row_at class g.cap (grid_of g) source))
+  brought_from i = each (λ c. landed p (moves P w q c)) (take i (row_at class g.cap (grid_of g) (q % 5)))
 
-  module _ (slot : ℕ) (k : Registers) (five : source < 5) where
+  module _ (k : Registers) where
     -- one configuration more, as it is read with its entry
-    pub row_more : (h j : G.Grid V) → Safe slot g h (Ok tt) → (source ≡ slot → ⊥) → (i at : ℕ) → at ≡ source → (d : Configuration) (n : ℕ) (r : Result (Unit {0}) Entry) → i < count_at g.front at →
-        d ≡ get_or (row_at class h.cap (grid_of h) at) i (first_configuration []) → n ≡ get_or (entries_at h.front at) i 0 → Tracks class P k w q g source →
-        Brings class slot P k w p g h (brought_from i) (Ok tt) → (Reach P k w q d (steps_to (vec_items h.book.entries) n) → Brings class slot P k w p h j (landed p (moves P w q d)) r) → Brings class slot P k w p g j (brought_from (i + 1)) r
-    row_more h j S ne i at e d n r l ed en T A step =
+    pub row_more : (h j : G.Grid V) → Safe (p % 5) g h (Ok tt) → q < p → p ≤ q + 4 → (i at : ℕ) → at ≡ q % 5 → (d : Configuration) (n : ℕ) (r : Result (Unit {0}) Entry) → i < count_at g.front at →
+        d ≡ get_or (row_at class h.cap (grid_of h) at) i (first_configuration []) → n ≡ get_or (entries_at h.front at) i 0 → Tracks class P k w q g (q % 5) →
+        Brings class (p % 5) P k w p g h (brought_from i) (Ok tt) → (Reach P k w q d (steps_to (vec_items h.book.entries) n) → Brings class (p % 5) P k w p h j (landed p (moves P w q d)) r) → Brings class (p % 5) P k w p g j (brought_from (i + 1)) r
+    row_more h j S later near i at e d n r l ed en T A step =
+        let five : q % 5 < 5 = omega arith in
+        let ne = rows_apart q p later near in
         let F : Configuration → List Configuration = λ c. landed p (moves P w q c) in
-        let row = row_at class g.cap (grid_of g) source in
-        let l' : i < count_at g.front source = subst (λ (z : ℕ). i < count_at g.front z) e l in
+        let row = row_at class g.cap (grid_of g) (q % 5) in
+        let l' : i < count_at g.front (q % 5) = subst (λ (z : ℕ). i < count_at g.front z) e l in
         let ed' = ed ∙ ap (λ (z : ℕ). get_or (row_at class h.cap (grid_of h) z) i (first_configuration [])) e in
         let en' = en ∙ ap (λ (z : ℕ). get_or (entries_at h.front z) i 0) e in
-        let same = A.1.other source five ne in
-        let spared = S.spares source ne in
-        let t = tracks_kept class P k w q g h source five S.cap same spared A.1.kept T in
-        let R = entered_reach class P k w q h source i d n (let z = spared.0 in omega arith) ed' en' t in
-        let x : d ≡ get_or row i (first_configuration []) = ed' ∙ (ap (λ (z : ℕ). get_or (row_at class z (grid_of h) source) i (first_configuration [])) S.cap ∙ ap (λ z. get_or z i (first_configuration [])) same) in
-        let m = length_row_at class g.cap source (grid_of g) five g.room in
+        let same = A.1.other (q % 5) five ne in
+        let spared = S.spares (q % 5) ne in
+        let t = tracks_kept class P k w q g h (q % 5) five S.cap same spared A.1.kept T in
+        let R = entered_reach class P k w q h (q % 5) i d n (let z = spared.0 in omega arith) ed' en' t in
+        let x : d ≡ get_or row i (first_configuration []) = ed' ∙ (ap (λ (z : ℕ). get_or (row_at class z (grid_of h) (q % 5)) i (first_configuration [])) S.cap ∙ ap (λ z. get_or z i (first_configuration [])) same) in
+        let m = length_row_at class g.cap (q % 5) (grid_of g) five g.room in
         let f : brought_from (i + 1) ≡ brought_from i ++ F d = each_more F row i (first_configuration []) (omega arith) ∙ ap (λ z. brought_from i ++ F z) (sym x) in
-        subst (λ z. Brings class slot P k w p g j z r) (sym f) (brings_on class slot P k w p g h j S.cap (brought_from i) (F d) r A (step R))
+        subst (λ z. Brings class (p % 5) P k w p g j z r) (sym f) (brings_on class (p % 5) P k w p g h j S.cap (brought_from i) (F d) r A (step R))
 
     -- all of them
-    pub row_end : (j : G.Grid V) (i : ℕ) → count_at g.front source ≤ i → Brings class slot P k w p g j (brought_from i) (Ok tt) → Brings class slot P k w p g j (each (λ c. landed p (moves P w q c)) (row_at class g.cap (grid_of g) source)) (Ok tt)
+    pub row_end : (j : G.Grid V) (i : ℕ) → count_at g.front (q % 5) ≤ i → Brings class (p % 5) P k w p g j (brought_from i) (Ok tt) → Brings class (p % 5) P k w p g j (each (λ c. landed p (moves P w q c)) (row_at class g.cap (grid_of g) (q % 5))) (Ok tt)
     row_end j i l A =
-        let m = length_row_at class g.cap source (grid_of g) five g.room in
-        subst (λ z. Brings class slot P k w p g j (each (λ c. landed p (moves P w q c)) z) (Ok tt)) (take_all i (row_at class g.cap (grid_of g) source) (omega arith)) A
+        let five : q % 5 < 5 = omega arith in
+        let m = length_row_at class g.cap (q % 5) (grid_of g) five g.room in
+        subst (λ z. Brings class (p % 5) P k w p g j (each (λ c. landed p (moves P w q c)) z) (Ok tt)) (take_all i (row_at class g.cap (grid_of g) (q % 5)) (omega arith)) A
 
     -- an error among what the first bring is one among all
-    pub row_error : (j : G.Grid V) (i : ℕ) (x : Entry) → Brings class slot P k w p g j (brought_from i) (Err x) → Brings class slot P k w p g j (each (λ c. landed p (moves P w q c)) (row_at class g.cap (grid_of g) source)) (Err x)
+    pub row_error : (j : G.Grid V) (i : ℕ) (x : Entry) → Brings class (p % 5) P k w p g j (brought_from i) (Err x) → Brings class (p % 5) P k w p g j (each (λ c. landed p (moves P w q c)) (row_at class g.cap (grid_of g) (q % 5))) (Err x)
     row_error j i x A =
         let F : Configuration → List Configuration = λ c. landed p (moves P w q c) in
-        let row = row_at class g.cap (grid_of g) source in
+        let row = row_at class g.cap (grid_of g) (q % 5) in
         (ap (λ z. any_error (each F z)) (sym (take-append-drop i row)) ∙ (ap any_error (each_append F (take i row) (drop i row)) ∙ error_early (each F (take i row)) (each F (drop i row)) A.0), A.1)
 
 -- a scene from a later position on

@@ -1,5 +1,5 @@
 -- The statements of a table, one by one.
-use Rattle.std.proofs.Common.{◌≡◌, ℕ, zero, suc, ◌+◌, ◌<◌, Bool, true, false, not, eqb, ◌&&◌, List, [], ◌∷◌, map, length, get_or, drop, sym, refl, ap, ap₂, ◌∙◌, arith}
+use Rattle.std.proofs.Common.{◌≡◌, ℕ, zero, suc, ◌+◌, ◌<◌, ◌≤◌, Bool, true, false, not, eqb, ◌&&◌, List, [], ◌∷◌, map, length, get_or, drop, sym, refl, ap, ap₂, ◌∙◌, arith}
 use mathlib.Core.List.Memᴰ
 use Rattle.std.specs.List.{list_all}
 use Rattle.std.proofs.lemmas.Bool.{ne_eqb}
@@ -25,10 +25,10 @@ module _ (P : T.Table) (ts : List Statement) (e : P.statements ≡ map statement
   long : length P.statements ≡ length ts
   long = ap length e ∙ length-map ts statement
 
-  pub length_numbered : length (T.numbered P) ≡ suc (length ts)
+  length_numbered : length (T.numbered P) ≡ suc (length ts)
   length_numbered = M.length_numbered P ∙ ap suc long
 
-  pub numbered_at : (i : ℕ) (d : Statement) → i < length ts → get_or (T.numbered P) i (65, T.implied) ≡ (i + 1, statement (get_or ts i d))
+  numbered_at : (i : ℕ) (d : Statement) → i < length ts → get_or (T.numbered P) i (65, T.implied) ≡ (i + 1, statement (get_or ts i d))
   numbered_at i d l =
       let n = long in
       let a : (get_or (T.numbered P) i (65, T.implied)).0 ≡ i + 1 = let z = number_at 1 P.statements i (65, T.implied) (omega arith) in omega arith in
@@ -36,12 +36,13 @@ module _ (P : T.Table) (ts : List Statement) (e : P.statements ≡ map statement
       M.numbered_at P i (statement d) (omega arith) ∙ (ap (λ z. get_or z i (statement d)) e ∙ get_or-map statement ts i d (statement d) l) in
       λ j. (a j, b j)
 
-  -- one that was read
-  pub written_is : (i : ℕ) (t : Statement) → i < length ts → t ≡ get_or ts i t → get_or (T.numbered P) i (65, T.implied) ≡ (i + 1, statement t)
-  written_is i t l is = numbered_at i t l ∙ ap (λ z. (i + 1, statement z)) (sym is)
+  -- one that was read, with its number
+  pub written_is : (i n : ℕ) (t : Statement) (u : T.Statement) → i < length ts → t ≡ get_or ts i t → n ≡ i + 1 → u ≡ statement t → (i < length (T.numbered P)) × (get_or (T.numbered P) i (65, T.implied) ≡ (n, u))
+  written_is i n t u l is en eu = (let m = length_numbered in omega arith, numbered_at i t l ∙ ap (λ z. (i + 1, statement z)) (sym is) ∙ λ j. (sym en j, sym eu j))
 
-  pub numbered_end : (i : ℕ) → i ≡ length ts → get_or (T.numbered P) i (65, T.implied) ≡ (65, T.implied)
-  numbered_end i l = M.numbered_end P i (l ∙ sym long)
+  -- behind them the implied one, the last
+  pub implied_is : (i n : ℕ) (u : T.Statement) → i ≡ length ts → n ≡ 65 → u ≡ T.implied → (i < length (T.numbered P)) × (get_or (T.numbered P) i (65, T.implied) ≡ (n, u)) × (length (T.numbered P) ≤ i + 1)
+  implied_is i n u l en eu = let m = length_numbered in (omega arith, M.numbered_end P i (l ∙ sym long) ∙ λ j. (sym en j, sym eu j), omega arith)
 
 -- whether all statements let a skip go on: a tells it of the written ones
 module _ (w : World) (p : ℕ) (c : Configuration) (P : T.Table) (ts : List Statement) (e : P.statements ≡ map statement ts) (a : Bool) (written : a ≡ list_all (λ t. calms w p c (0, statement t)) ts) where

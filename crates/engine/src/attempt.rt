@@ -14,8 +14,7 @@ fn fits_pattern<K: Kind>(registers: &[K::Value; 8], v: K::Value, p: Pattern<Regi
     ensures { result ≡ fits (map K.Kind.class registers.now) (K.Kind.class v) (pattern p) }
 {
     match p {
-        Pattern::Any => true,
-        Pattern::Write(_) => true,
+        Pattern::Any | Pattern::Write(_) => true,
         Pattern::Same(r) => K::same(&registers[r.place()], &v),
         Pattern::Differs(r) => !K::same(&registers[r.place()], &v),
     }

@@ -152,8 +152,7 @@ fn step_statement<K: Kind>(
             let next = Configuration::new(t.target, registers);
             land::<K>(grid, Slot::of(position.number), from, &next)
         }
-        Outcome::Fails => Ok(()),
-        Outcome::Hangs => Ok(()),
+        Outcome::Fails | Outcome::Hangs => Ok(()),
     }
 }
 

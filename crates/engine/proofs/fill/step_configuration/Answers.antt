@@ -1,9 +1,8 @@
-use Rattle.std.proofs.Common.{◌≡◌, ◌+◌, ◌%◌, ◌<◌, ◌≤◌, length, Ok, Err, sym, refl, ◌∙◌, arith}
+use Rattle.std.proofs.Common.{◌≡◌, ◌+◌, ◌%◌, length, Ok, Err, refl, arith}
 use Rattle.std.proofs.lemmas.Result.{err_from_is_err_and}
-use Rattle.topl.specs.Table.{numbered}
 use Rattle.engine.specs.Views.{stated}
 use Rattle.engine.specs.Fronts.{stands_for}
-use Rattle.engine.proofs.Tables.{length_numbered, written_is, numbered_end}
+use Rattle.engine.proofs.Tables.{written_is, implied_is}
 use Rattle.engine.proofs.Fills.{safe_on}
 use Rattle.engine.proofs.Steps.{steps_more, steps_end, steps_error}
 use Rattle.engine.proofs.fill.step_configuration.Goals as goal
@@ -23,12 +22,10 @@ returns-in_err-step_statement-clause-brings g c P k w W r =
     let slot = p % 5 in
     let i = c.loop-i.i in
     let x = c.in_err-step_statement.field-0.0 in
-    let n = length_numbered P ts W.statements in
-    let l : i < length (numbered P) = omega (arith, c.loop-i-test.true) in
-    let is = written_is P ts W.statements i c.t-item.result c.loop-i-test.true c.t-item.is ∙ λ j. (sym c.written_at.ensures.number j, sym c.written_at.ensures.stands j) in
+    let is = written_is P ts W.statements i t.number c.t-item.result (stated t) c.loop-i-test.true c.t-item.is c.written_at.ensures.number c.written_at.ensures.stands in
     rw (told.1, told.2)
     (steps_error P w base d p class slot k s c.step_statement.new.grid (i + 1) x
-    (steps_more P w base d p class slot k s c.loop-i.grid c.step_statement.new.grid c.loop-i.invariant.safe.cap i (t.number, stated t) (Err x) at.entry l is c.requires r (c.loop-i.invariant.brings P k w W r) (c.in_err-step_statement.ensures.brings P k w W)))
+    (steps_more P w base d p class slot k s c.loop-i.grid c.step_statement.new.grid c.loop-i.invariant.safe.cap i (t.number, stated t) (Err x) at.entry is.0 is.1 c.requires r (c.loop-i.invariant.brings P k w W r) (c.in_err-step_statement.ensures.brings P k w W)))
 
 pub loop-i-preserved : goal.loop-i-preserved
 loop-i-preserved g c =
@@ -46,10 +43,8 @@ loop-i-preserved g c =
     record {
       safe = safe_on slot s c.loop-i.grid c.step_statement.new.grid (Ok tt) c.loop-i.invariant.safe c.in_ok-step_statement.ensures.safe;
       brings = λ P k w W r.
-          let n = length_numbered P ts W.statements in
-          let l : i < length (numbered P) = omega (arith, c.loop-i-test.true) in
-          let is = written_is P ts W.statements i c.t-item.result c.loop-i-test.true c.t-item.is ∙ λ j. (sym c.written_at.ensures.number j, sym c.written_at.ensures.stands j) in
-          steps_more P w base d p class slot k s c.loop-i.grid c.step_statement.new.grid c.loop-i.invariant.safe.cap i (t.number, stated t) (Ok tt) at.entry l is c.requires r (c.loop-i.invariant.brings P k w W r) (c.in_ok-step_statement.ensures.brings P k w W);
+          let is = written_is P ts W.statements i t.number c.t-item.result (stated t) c.loop-i-test.true c.t-item.is c.written_at.ensures.number c.written_at.ensures.stands in
+          steps_more P w base d p class slot k s c.loop-i.grid c.step_statement.new.grid c.loop-i.invariant.safe.cap i (t.number, stated t) (Ok tt) at.entry is.0 is.1 c.requires r (c.loop-i.invariant.brings P k w W r) (c.in_ok-step_statement.ensures.brings P k w W);
     }
 
 pub returns-clause-brings : goal.returns-clause-brings
@@ -66,10 +61,7 @@ returns-clause-brings g c P k w W r =
     let slot = p % 5 in
     let i = c.loop-i.i in
     let o = c.step_statement-2.result in
-    let n = length_numbered P ts W.statements in
     let e : i ≡ length ts = omega (arith, c.loop-i-test.false) in
-    let l : i < length (numbered P) = omega arith in
-    let all : length (numbered P) ≤ i + 1 = omega arith in
-    let is = numbered_end P ts W.statements i e ∙ λ j. (sym c.implied_by.ensures.number j, sym (c.implied_by.ensures.stands refl) j) in
-    steps_end P w base d p class slot k s c.step_statement-2.new.grid (i + 1) o all
-    (steps_more P w base d p class slot k s c.loop-i.grid c.step_statement-2.new.grid c.loop-i.invariant.safe.cap i (t.number, stated t) o at.entry l is c.requires r (c.loop-i.invariant.brings P k w W r) (c.step_statement-2.ensures.brings P k w W))
+    let is = implied_is P ts W.statements i t.number (stated t) e c.implied_by.ensures.number (c.implied_by.ensures.stands refl) in
+    steps_end P w base d p class slot k s c.step_statement-2.new.grid (i + 1) o is.2
+    (steps_more P w base d p class slot k s c.loop-i.grid c.step_statement-2.new.grid c.loop-i.invariant.safe.cap i (t.number, stated t) o at.entry is.0 is.1 c.requires r (c.loop-i.invariant.brings P k w W r) (c.step_statement-2.ensures.brings P k w W))

@@ -1,8 +1,8 @@
-use Rattle.std.proofs.Common.{ℕ, ◌+◌, ◌%◌, ◌<◌, ◌≤◌, Ok, Err, subst, arith}
+use Rattle.std.proofs.Common.{ℕ, ◌+◌, ◌%◌, ◌≤◌, Ok, Err, subst, arith}
 use Rattle.std.proofs.lemmas.Result.{err_from_is_err_and}
 use Rattle.engine.specs.Fronts.{stands_for, count_at}
 use Rattle.engine.proofs.Fills.{safe_on}
-use Rattle.engine.proofs.Steps.{row_more, row_end, row_error, rows_apart}
+use Rattle.engine.proofs.Steps.{row_more, row_end, row_error}
 use Rattle.engine.proofs.fill.step_row.Goals as goal
 
 pub returns-in_err-step_configuration-clause-brings : goal.returns-in_err-step_configuration-clause-brings
@@ -16,11 +16,10 @@ returns-in_err-step_configuration-clause-brings g c P k w W T =
     let i = c.loop-i.i in
     let x = c.in_err-step_configuration.field-0.0 in
     let at = c.entered_at-at in
-    let five : base % 5 < 5 = omega arith in
-    let apart = rows_apart base p c.requires (let few = position.scene.now.short in omega (arith, position.to)) in
+    let near : p ≤ base + 4 = let few = position.scene.now.short in omega (arith, position.to) in
     rw (told.1, told.2)
-    (row_error P w base p class s (base % 5) (p % 5) k five c.step_configuration.new.grid (i + 1) x
-    (row_more P w base p class s (base % 5) (p % 5) k five c.loop-i.grid c.step_configuration.new.grid c.loop-i.invariant.safe apart i c.of-source.result.at c.of-source.ensures
+    (row_error P w base p class s k c.step_configuration.new.grid (i + 1) x
+    (row_more P w base p class s k c.loop-i.grid c.step_configuration.new.grid c.loop-i.invariant.safe c.requires near i c.of-source.result.at c.of-source.ensures
     (stands_for class at.result.configuration) at.result.entry (Err x) c.loop-i-test.true at.ensures.stands at.ensures.entry T (c.loop-i.invariant.brings P k w W T) (c.in_err-step_configuration.ensures.brings P k w W)))
 
 pub loop-i-preserved : goal.loop-i-preserved
@@ -32,12 +31,11 @@ loop-i-preserved g c =
     let p = position.number in
     let i = c.loop-i.i in
     let at = c.entered_at-at in
-    let five : base % 5 < 5 = omega arith in
-    let apart = rows_apart base p c.requires (let few = position.scene.now.short in omega (arith, position.to)) in
+    let near : p ≤ base + 4 = let few = position.scene.now.short in omega (arith, position.to) in
     record {
       safe = safe_on (p % 5) s c.loop-i.grid c.step_configuration.new.grid (Ok tt) c.loop-i.invariant.safe c.in_ok-step_configuration.ensures.safe;
       brings = λ P k w W T.
-          row_more P w base p class s (base % 5) (p % 5) k five c.loop-i.grid c.step_configuration.new.grid c.loop-i.invariant.safe apart i c.of-source.result.at c.of-source.ensures
+          row_more P w base p class s k c.loop-i.grid c.step_configuration.new.grid c.loop-i.invariant.safe c.requires near i c.of-source.result.at c.of-source.ensures
           (stands_for class at.result.configuration) at.result.entry (Ok tt) c.loop-i-test.true at.ensures.stands at.ensures.entry T (c.loop-i.invariant.brings P k w W T) (c.in_ok-step_configuration.ensures.brings P k w W);
     }
 
@@ -46,6 +44,5 @@ returns-clause-brings g c P k w W T =
     let s = c.args.grid.now in
     let base = c.args.position.now.scene.now.base in
     let p = c.args.position.now.number in
-    let five : base % 5 < 5 = omega arith in
     let l = subst (λ (z : ℕ). count_at s.front z ≤ c.loop-i.i) c.of-source.ensures c.loop-i-test.false in
-    row_end P w base p g.K.Kind.class s (base % 5) (p % 5) k five c.loop-i.grid c.loop-i.i l (c.loop-i.invariant.brings P k w W T)
+    row_end P w base p g.K.Kind.class s k c.loop-i.grid c.loop-i.i l (c.loop-i.invariant.brings P k w W T)

@@ -11,5 +11,5 @@ invariant-loop-i g l =
     let p = l.position.number in record {
       safe : Safe (p % 5) l.fn.grid l.grid (Ok tt);
       brings : (P : Table) (k : Registers) (w : World) → Watched g.K.Kind.class scene P w → Tracks g.K.Kind.class P k w scene.base l.fn.grid (scene.base % 5) →
-          Brings g.K.Kind.class (p % 5) P k w p l.fn.grid l.grid (brought_from P w scene.base p g.K.Kind.class l.fn.grid (scene.base % 5) l.i) (Ok tt);
+          Brings g.K.Kind.class (p % 5) P k w p l.fn.grid l.grid (brought_from P w scene.base p g.K.Kind.class l.fn.grid l.i) (Ok tt);
     }
