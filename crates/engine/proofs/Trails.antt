@@ -2,7 +2,7 @@
 use Rattle.std.proofs.Common.{◌≡◌, ℕ, zero, suc, ◌+◌, ◌-◌, ◌<◌, ◌≤◌, List, [], ◌∷◌, ◌++◌, length, get_or, take, drop, set, sym, refl, ap, ◌∙◌, ⊎_elim, append_assoc, arith, length-append, length-set, get_or-set_other, get_or-set_same}
 use Rattle.std.proofs.lemmas.List.{get_or_default}
 use Rattle.engine.specs.declared.entry.Entry.{Entry}
-use Rattle.engine.specs.Trails.{entry_at, Linked, trail, steps_to, room_of, Enters}
+use Rattle.engine.specs.Trails.{entry_at, Linked, trail, steps_to, Enters}
 use Rattle.std.proofs.lemmas.Bool.{cases_lt}
 
 module _ (es : List Entry) (used : ℕ) (linked : Linked es used) where

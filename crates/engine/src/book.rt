@@ -67,7 +67,7 @@ impl Book {
         let mut count = 0;
         while at != 0 {
             count += 1;
-            at = self.entries[at as usize].parent;
+            at = self.entries[usize::from(at)].parent;
         }
         count
     }
@@ -82,7 +82,7 @@ impl Book {
         let mut left = self.depth(entry);
         while at != 0 {
             left -= 1;
-            let line = self.entries[at as usize];
+            let line = self.entries[usize::from(at)];
             page[left] = line.step;
             at = line.parent;
         }
