@@ -11,9 +11,10 @@ use Rattle.engine.specs.declared.front.Breach.{Breach}
 use Rattle.engine.specs.declared.front.Ruling.{Ruling}
 use Rattle.engine.specs.declared.front.Ruling.TheVariants.{Breaks, Spills, Overfills, GoesOn}
 use Rattle.engine.specs.Trails.{room_of}
-use Rattle.engine.specs.Fronts.{row_at, Grid, Room, Spares}
+use Rattle.engine.specs.Fronts.{row_at, Grid, Spares}
 use Rattle.engine.specs.Fills.{Ready, Tracked}
 use Rattle.engine.specs.Judging.{ruled, ShowsRun, Balance, Judged, Held, Start, Decided, entries_before, Along}
+use Rattle.engine.proofs.Fronts.{Room}
 use Rattle.engine.proofs.Fills.{tracked_kept}
 
 module _ (P : T.Table) (k : Registers) (cap book : ℕ) (before now : World) (p : ℕ) where

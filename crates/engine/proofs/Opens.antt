@@ -13,12 +13,12 @@ use Rattle.engine.specs.declared.front.Front.{Front}
 use Rattle.engine.specs.declared.table.Register.{Register}
 use Rattle.engine.specs.Views.{number}
 use Rattle.engine.specs.Trails.{steps_to}
-use Rattle.engine.specs.Fronts.{configuration, row, row_at, count_at, entries_at, stored, Added, Bare, Below, Grid, grid, Room}
+use Rattle.engine.specs.Fronts.{configuration, row, row_at, count_at, entries_at, stored, Added, Bare, Below, Grid, grid}
 use Rattle.engine.specs.Fills.{Tracked}
 use Rattle.engine.specs.Judging.{Held}
 use Rattle.engine.proofs.Fits.{class_read}
 use Rattle.engine.proofs.Trails.{steps_none}
-use Rattle.engine.proofs.Fronts.{board_put, added_here, added_room}
+use Rattle.engine.proofs.Fronts.{Room, board_put, added_here, added_room}
 
 -- one constant more, in its register n
 pub sets_more : {V : Type 0} (class : V → Class) (cs : List Register) (vs registers : List V) (j n : ℕ) (r : Register) (x : V) → j < length cs → length cs ≡ length vs → n ≡ number r → r ≡ get_or cs j r → x ≡ get_or vs j x →
@@ -38,7 +38,7 @@ alone P k = refl
 
 -- no entry is in use at a bare front
 pub bare_below : (F : Front) → Bare F → (used k : ℕ) → Below used (entries_at F k)
-bare_below F B used k i l = let z : length (entries_at F k) ≡ 0 = ap (λ (n : ℕ). length (take n (drop (64 * k) F.entries))) (B.2 k) in absurd (omega arith)
+bare_below F B used k i l = let z : length (entries_at F k) ≡ 0 = ap (λ (n : ℕ). length (take n (drop (64 * k) F.entries))) (B k) in absurd (omega arith)
 
 module _ {V : Type 0} (class : V → Class) (cap : ℕ) (F G : Front) (rows registers : List V) (es : List Entry) (used : ℕ) (B : Bare F) (A : Added F G 0 0 0) (few : cap ≤ 64) (some : 1 ≤ cap) (long : 40 * cap ≤ length rows)
     (eight : length registers ≡ 8) (one : 1 ≤ used) where
@@ -46,23 +46,23 @@ module _ {V : Type 0} (class : V → Class) (cap : ℕ) (F G : Front) (rows regi
   on board = grid G board es used
 
   bare_room : Room cap (grid F rows es used)
-  bare_room = (few, long, B.0, (λ k. let z = B.2 k in omega arith), B.1, λ k i l. bare_below F B used k i l)
+  bare_room = record { few = few; wide = long; held = λ k. let z = B k in omega arith; known = bare_below F B used }
 
   first_at : paste rows (0 * (8 * cap) + 8 * count_at F 0) registers 8 ≡ paste rows (0 * (8 * cap) + 8 * 0) registers 8
-  first_at = ap (λ (z : ℕ). paste rows (0 * (8 * cap) + 8 * z) registers 8) (B.2 0)
+  first_at = ap (λ (z : ℕ). paste rows (0 * (8 * cap) + 8 * z) registers 8) (B 0)
 
   module _ (board : List V) (put : board ≡ paste rows (0 * (8 * cap) + 8 * 0) registers 8) where
     first_room : Room cap (on board)
-    first_room = subst (λ z. Room cap (on z)) (first_at ∙ sym put) (added_room class cap 0 0 0 (grid F rows es used) G registers es used (omega arith) bare_room (let z = B.2 0 in omega arith) eight A (omega arith) (omega arith))
+    first_room = subst (λ z. Room cap (on z)) (first_at ∙ sym put) (added_room class cap 0 0 0 (grid F rows es used) G registers es used (omega arith) bare_room (let z = B 0 in omega arith) eight A (omega arith) (omega arith))
 
     first_row : row_at class cap (on board) 0 ≡ configuration class 0 registers ∷ []
     first_row =
         ap (λ z. row_at class cap (on z) 0) (put ∙ sym first_at)
-        ∙ (added_here class cap 0 0 0 (grid F rows es used) G registers es used (omega arith) bare_room (let z = B.2 0 in omega arith) eight A
-        ∙ ap (λ (z : ℕ). row class (take z (drop (64 * 0) F.states)) (drop (0 * (8 * cap)) rows) ++ configuration class 0 registers ∷ []) (B.2 0))
+        ∙ (added_here class cap 0 0 0 (grid F rows es used) G registers es used (omega arith) bare_room (let z = B 0 in omega arith) eight A
+        ∙ ap (λ (z : ℕ). row class (take z (drop (64 * 0) F.states)) (drop (0 * (8 * cap)) rows) ++ configuration class 0 registers ∷ []) (B 0))
 
     first_entries : entries_at G 0 ≡ 0 ∷ []
-    first_entries = A.entries_here ∙ ap (λ (z : ℕ). take z (drop (64 * 0) F.entries) ++ 0 ∷ []) (B.2 0)
+    first_entries = A.entries_here ∙ ap (λ (z : ℕ). take z (drop (64 * 0) F.entries) ++ 0 ∷ []) (B 0)
 
     module _ (P : T.Table) (k : Registers) (e : map class registers ≡ k) where
       row_is : row_at class cap (on board) 0 ≡ first_configuration k ∷ []
@@ -76,7 +76,7 @@ module _ {V : Type 0} (class : V → Class) (cap : ℕ) (F G : Front) (rows regi
 
       first_tracked : Tracked class cap P k (so_far []) 0 (on board) 0
       first_tracked i l =
-          let n : i ≡ 0 = let a = A.count_here in let b = B.2 0 in omega arith in
+          let n : i ≡ 0 = let a = A.count_here in let b = B 0 in omega arith in
           let s : steps_to es (get_or (entries_at G 0) i 0) ≡ [] = ap (λ x. steps_to es (get_or x i 0)) first_entries ∙ (ap (λ (x : ℕ). steps_to es (get_or (0 ∷ []) x 0)) n ∙ steps_none es) in
           let d : get_or (row_at class cap (on board) 0) i (first_configuration []) ≡ first_configuration k = ap (λ x. get_or x i (first_configuration [])) row_is ∙ ap (λ (x : ℕ). get_or (first_configuration k ∷ []) x (first_configuration [])) n in
           subst (λ x. Reach P k (so_far []) 0 x (steps_to es (get_or (entries_at G 0) i 0))) (sym d) (subst (Reach P k (so_far []) 0 (first_configuration k)) (sym s) at_start)

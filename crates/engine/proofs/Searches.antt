@@ -1,10 +1,10 @@
 -- The search for a configuration in a row, one by one.
 use Rattle.std.proofs.Common.{◌≡◌, ℕ, ◌+◌, ◌*◌, ◌<◌, ◌≤◌, Bool, true, false, cond, ◌&&◌, eqb, List, [], map, length, get_or, take, drop, Decides, sym, ap, ◌∙◌, ap₂, arith, length-drop, length-take}
-use Rattle.std.proofs.lemmas.List.{drop_more, drop-drop, drop_all, get_or-take, get_or-drop, length-map}
-use Rattle.std.proofs.lemmas.Bool.{ne_eqb, eq-eqb, and_left, and_right, and_from, cond-true, cond-false}
+use Rattle.std.proofs.lemmas.List.{drop_more, drop-drop, get_or-take, get_or-drop, length-map}
+use Rattle.std.proofs.lemmas.Bool.{ne_eqb, and_left, and_right, cond-false}
 use Rattle.topl.specs.Lists.{Class, alike, same_class, holds}
 use Rattle.topl.specs.Table.{at}
-use Rattle.topl.specs.Runs.{Configuration, alikeᶜ}
+use Rattle.topl.specs.Runs.{alikeᶜ}
 use Rattle.engine.specs.declared.configuration.Configuration as C
 use Rattle.engine.specs.Fronts.{stands_for, row}
 use Rattle.engine.proofs.Fits.{class_read, same_at}

@@ -78,14 +78,14 @@ module _ (P : T.Table) (w : World) (q p : ℕ) {V : Type 0} (class : V → Class
         let t = tracks_kept class P k w q g h source five S.cap same spared A.1.kept T in
         let R = entered_reach class P k w q h source i d n (let z = spared.0 in omega arith) ed' en' t in
         let x : d ≡ get_or row i (first_configuration []) = ed' ∙ (ap (λ (z : ℕ). get_or (row_at class z (grid_of h) source) i (first_configuration [])) S.cap ∙ ap (λ z. get_or z i (first_configuration [])) same) in
-        let m = length_row_at class g.cap source (grid_of g) five g.room in
+        let m = length_row_at class g.cap source (grid_of g) five in
         let f : brought_from (i + 1) ≡ brought_from i ++ F d = each_more F row i (first_configuration []) (omega arith) ∙ ap (λ z. brought_from i ++ F z) (sym x) in
         subst (λ z. Brings class slot P k w p g j z r) (sym f) (brings_on class slot P k w p g h j S.cap (brought_from i) (F d) r A (step R))
 
     -- all of them
     pub row_end : (j : G.Grid V) (i : ℕ) → count_at g.front source ≤ i → Brings class slot P k w p g j (brought_from i) (Ok tt) → Brings class slot P k w p g j (each (λ c. landed p (moves P w q c)) (row_at class g.cap (grid_of g) source)) (Ok tt)
     row_end j i l A =
-        let m = length_row_at class g.cap source (grid_of g) five g.room in
+        let m = length_row_at class g.cap source (grid_of g) five in
         subst (λ z. Brings class slot P k w p g j (each (λ c. landed p (moves P w q c)) z) (Ok tt)) (take_all i (row_at class g.cap (grid_of g) source) (omega arith)) A
 
     -- an error among what the first bring is one among all

@@ -126,7 +126,7 @@ pub(crate) fn arrive<K: Kind>(
     ensures board { vec_len grid.new.board ≡ vec_len grid.old.board }
 {
     let cap = grid.cap;
-    let count = grid.front.counts[slot.at];
+    let count = grid.front.count_at(slot);
     if find::<K>(grid.front.states_of(slot), part_of(grid, slot), c) {
         return Ok(());
     }

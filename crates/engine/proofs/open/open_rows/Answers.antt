@@ -10,10 +10,9 @@ invariant_of-grid g c =
     let cap = c.args.cap in
     let b = c.begin.new.self in
     let one : b.used ≡ 1 = omega (arith, c.begin.ensures.used, c.requires.4) in
-    record {
-      room = opened_room class cap c.new-grid.result c.add.new.self c.of-slot.result.at s.board c.deref_mut.result.now c.put_configuration.new.rows c.start_registers-registers.result (vec_items b.entries) b.used c.of-slot.ensures c.new-grid.ensures c.add.ensures
-          c.deref_mut.ensures.value c.put_configuration.ensures c.requires.1 c.requires.2 c.requires.3 c.start_registers-registers.ensures.eight one;
-    }
+    let R = opened_room class cap c.new-grid.result c.add.new.self c.of-slot.result.at s.board c.deref_mut.result.now c.put_configuration.new.rows c.start_registers-registers.result (vec_items b.entries) b.used c.of-slot.ensures c.new-grid.ensures c.add.ensures
+    c.deref_mut.ensures.value c.put_configuration.ensures c.requires.1 c.requires.2 c.requires.3 c.start_registers-registers.ensures.eight one in
+    record { few = R.few; wide = c.requires.3; held = R.held; known = R.known }
 
 pub returns-clause-follows : goal.returns-clause-follows
 returns-clause-follows g c P e =
