@@ -80,11 +80,12 @@ module _ {X : Type 0} (xs rs : List X) (at n i k : ℕ) (a : at + n ≤ length x
       sym (drop-append-le (i + k) (take n (drop at xs)) (drop n (drop at xs)) lt) ∙ (ap (drop (i + k)) (take-append-drop n (drop at xs)) ∙ drop-drop (i + k) at xs) in
       simp (append_assoc, x1, x2, take-add, add_assoc)
 
--- a board that was lent, with eight registers written
-pub board_put : {X Z : Type 0} (v : Vec X Z) (lent back rs : List X) (at : ℕ) → lent ≡ vec_items v → back ≡ paste lent at rs (length rs) → at + 8 ≤ length (vec_items v) → length rs ≡ 8 → vec_items (with_items v back) ≡ paste (vec_items v) at rs 8
-board_put v lent back rs at e f l n =
-    let g : back ≡ paste (vec_items v) at rs 8 = f ∙ (ap (λ (z : ℕ). paste lent at rs z) n ∙ ap (λ z. paste z at rs 8) e) in
-    with_items_is v back (ap length g ∙ (length-paste (vec_items v) at rs 8 l (omega arith) ∙ sym v.ok.0)) ∙ g
+-- a board whose part was lent, and written in it
+pub board_put : {X Z : Type 0} (v : Vec X Z) (lent part rs : List X) (at n i : ℕ) → lent ≡ vec_items v → part ≡ stored (take n (drop at lent)) i rs → at + n ≤ length (vec_items v) → i + length rs ≤ n →
+    vec_items (with_items v (put_mid at n lent part)) ≡ stored (vec_items v) (at + i) rs
+board_put v lent part rs at n i e f l m =
+    let g : put_mid at n lent part ≡ stored (vec_items v) (at + i) rs = ap (put_mid at n lent) f ∙ (ap (λ z. put_mid at n z (stored (take n (drop at z)) i rs)) e ∙ put_part (vec_items v) rs at n i (length rs) l m) in
+    with_items_is v (put_mid at n lent part) (ap length g ∙ (length-paste (vec_items v) (at + i) rs (length rs) (omega arith) (omega arith) ∙ sym v.ok.0)) ∙ g
 
 -- what a write of k values at a place leaves, and where
 module _ {X : Type 0} (xs rs : List X) (at k : ℕ) (h : at + k ≤ length xs) (e : length rs ≡ k) where
@@ -222,24 +223,29 @@ module _ {V : Type 0} (class : V → Class) where
         let n = length_states s.front slot five in
         sym (e ∙ ap (λ z. holds alikeᶜ z (stands_for class c)) (ap₂ (row class) es ep ∙ row_front (states_at s.front slot) (drop (slot * (8 * s.cap)) (vec_items s.board)) (8 * s.cap) (omega arith)))
 
-    -- a configuration that was added to the front, its registers written to the board that was lent, and entered
-    module _ (entry count : ℕ) (F : Front) (b : Book) (lent back : List V) (from : Entry) (n : count ≡ count_at s.front slot) (l : count < s.cap) (A : Added s.front F slot c.state entry) (is : lent ≡ vec_items s.board)
-        (put : back ≡ stored lent (slot * (8 * s.cap) + 8 * count) c.registers) (E : Enters (vec_items s.book.entries) s.book.used from (vec_items b.entries) b.used entry) where
+    -- a configuration whose registers were written to the board, and that was entered and added to the front
+    module _ (t : TheGrid.Grid V) (entry count : ℕ) (F : Front) (b : Book) (from : Entry) (n : count ≡ count_at s.front slot) (l : count < s.cap)
+        (put : vec_items t.board ≡ stored (vec_items s.board) (slot * (8 * s.cap) + 8 * count) c.registers) (same : (t.front ≡ s.front) × (t.book ≡ s.book) × (t.cap ≡ s.cap))
+        (A : Added t.front F slot c.state entry) (E : Enters (vec_items t.book.entries) t.book.used from (vec_items b.entries) b.used entry) where
       abbrev pub after : Grid V
-      after = grid F (vec_items (with_items s.board back)) (vec_items b.entries) b.used
+      after = grid F (vec_items t.board) (vec_items b.entries) b.used
 
       here : count_at s.front slot < s.cap
       here = omega arith
 
-      news_put : news s.cap slot c.state entry (grid_of s) F c.registers (vec_items b.entries) b.used five (room_for s) here c.eight A ≡ vec_items (with_items s.board back)
-      news_put =
-          let f = fits_in s.cap slot c.state entry (grid_of s) F c.registers (vec_items b.entries) b.used five (room_for s) here c.eight A in
-          sym (board_put s.board lent back c.registers (slot * (8 * s.cap) + 8 * count_at s.front slot) is (put ∙ ap (λ (z : ℕ). stored lent (slot * (8 * s.cap) + 8 * z) c.registers) n) f c.eight)
+      adds : Added s.front F slot c.state entry
+      adds = subst (λ z. Added z F slot c.state entry) same.0 A
 
-      pub arrived_room : Room s.cap after
-      arrived_room = subst (λ z. Room s.cap (grid F z (vec_items b.entries) b.used)) news_put
-          (added_room s.cap slot c.state entry (grid_of s) F c.registers (vec_items b.entries) b.used five (room_for s) here c.eight A E.more E.known)
+      enters : Enters (vec_items s.book.entries) s.book.used from (vec_items b.entries) b.used entry
+      enters = subst (λ (z : Book). Enters (vec_items z.entries) z.used from (vec_items b.entries) b.used entry) same.1 E
+
+      news_put : news s.cap slot c.state entry (grid_of s) F c.registers (vec_items b.entries) b.used five (room_for s) here c.eight adds ≡ vec_items t.board
+      news_put = sym (put ∙ ap₂ (λ (x y : ℕ). paste (vec_items s.board) (slot * (8 * s.cap) + 8 * x) c.registers y) n c.eight)
+
+      pub arrived_room : Room t.cap after
+      arrived_room = subst (λ (y : ℕ). Room y after) (sym same.2) (subst (λ z. Room s.cap (grid F z (vec_items b.entries) b.used)) news_put
+          (added_room s.cap slot c.state entry (grid_of s) F c.registers (vec_items b.entries) b.used five (room_for s) here c.eight adds enters.more enters.known))
 
       pub arrived : holds alikeᶜ (row_at class s.cap (grid_of s) slot) (stands_for class c) ≡ false → Comes class s.cap (grid_of s) after slot from (stands_for class c)
       arrived u = subst (λ z. Comes class s.cap (grid_of s) (grid F z (vec_items b.entries) b.used) slot from (stands_for class c)) news_put
-          (comes s.cap slot c.state entry (grid_of s) F c.registers (vec_items b.entries) b.used five (room_for s) here c.eight A from E u)
+          (comes s.cap slot c.state entry (grid_of s) F c.registers (vec_items b.entries) b.used five (room_for s) here c.eight adds from enters u)

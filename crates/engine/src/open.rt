@@ -47,7 +47,7 @@ pub(crate) fn open_rows<K: Kind>(
     let grid = &mut s.grid;
     grid.cap = cap;
     grid.front = Front::new();
+    put_configuration(grid, slot, 0, &registers);
     grid.front.add(slot, START, 0);
     grid.book.begin();
-    put_configuration(&mut grid.board, cap, slot, 0, &registers);
 }

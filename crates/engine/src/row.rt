@@ -61,20 +61,20 @@ pub(crate) fn write_at<V: Copy>(part: &mut [V], from: usize, values: &[V])
 }
 
 // Writes the registers of configuration i of a position: the position's part of the board is lent on.
-// Kept its bounds in its terms: a position's part of the board is lent on alone, a fixed form of the project.
 pub(crate) fn put_configuration<V: Copy>(
-    rows: &mut [V],
-    cap: usize,
+    grid: &mut Grid<V>,
     slot: Slot,
     i: usize,
     registers: &[V; 8],
 )
-    requires { (cap ≤ 64) × (40 * cap ≤ length rows.old) × (i < cap) }
-    ensures { rows.new ≡ stored rows.old (slot.at * (8 * cap) + 8 * i) registers.now }
+    requires { i < grid.old.cap }
+    ensures written { grid.new.board.items ≡ stored grid.old.board.items (slot.at * (8 * grid.old.cap) + 8 * i) registers.now }
+    ensures board { vec_len grid.new.board ≡ vec_len grid.old.board }
+    ensures others { (grid.new.front ≡ grid.old.front) × (grid.new.book ≡ grid.old.book) × (grid.new.cap ≡ grid.old.cap) }
 {
-    let from = start(cap, slot);
-    let to = from + 8 * cap;
-    let part = &mut rows[from..to];
+    let from = start(grid.cap, slot);
+    let to = from + 8 * grid.cap;
+    let part = &mut grid.board[from..to];
     write_at(part, 8 * i, registers);
 }
 
@@ -125,16 +125,15 @@ pub(crate) fn arrive<K: Kind>(
     ensures cap { grid.new.cap ≡ grid.old.cap }
     ensures board { vec_len grid.new.board ≡ vec_len grid.old.board }
 {
-    let cap = grid.cap;
     let count = grid.front.count_at(slot);
     if find::<K>(grid.front.states_of(slot), part_of(grid, slot), c) {
         return Ok(());
     }
-    if count >= cap {
+    if count >= grid.cap {
         return Err(Crowded);
     }
+    put_configuration(grid, slot, count, &c.registers);
     let entry = grid.book.enter(from);
     grid.front.add(slot, c.state, entry);
-    put_configuration(&mut grid.board, cap, slot, count, &c.registers);
     Ok(())
 }
