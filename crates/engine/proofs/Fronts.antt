@@ -71,7 +71,7 @@ below_push used used' n (x ∷ ns) m l b (suc j) i = below_push used used' n ns 
 
 -- a part of a board that was written, in its board
 module _ {X : Type 0} (xs rs : List X) (at n i k : ℕ) (a : at + n ≤ length xs) (b : i + k ≤ n) where
-  pub put_part : put_mid at n xs (paste (take n (drop at xs)) i rs k) ≡ paste xs (at + i) rs k
+  put_part : put_mid at n xs (paste (take n (drop at xs)) i rs k) ≡ paste xs (at + i) rs k
   put_part =
       let ik : i ≤ n = omega arith in
       let lt : i + k ≤ length (take n (drop at xs)) = simp (length-take, length-drop) (omega arith) in

@@ -1,7 +1,6 @@
 -- What is held before the first event.
-use Rattle.std.proofs.Common.{◌≡◌, ℕ, ◌+◌, ◌*◌, ◌%◌, ◌<◌, ◌≤◌, min, List, [], ◌∷◌, ◌++◌, map, length, get_or, take, drop, set, sym, refl, ap, ◌∙◌, subst, ap₂, arith, Vec, vec_items, vec_len}
+use Rattle.std.proofs.Common.{◌≡◌, ℕ, ◌+◌, ◌*◌, ◌%◌, ◌<◌, ◌≤◌, min, List, [], ◌∷◌, ◌++◌, map, length, get_or, take, drop, set, sym, refl, ap, ◌∙◌, subst, ap₂, arith, vec_items, vec_len}
 use lib.Seq.{paste}
-use Rattle.std.specs.Vec.{with_items}
 use Rattle.std.proofs.lemmas.List.{get_or-map, drop_more, length-map, map-set}
 use Rattle.topl.specs.Lists.{Class, holds, apart}
 use Rattle.topl.specs.Table as T
@@ -20,7 +19,7 @@ use Rattle.engine.specs.Fills.{Tracked}
 use Rattle.engine.specs.Judging.{Held}
 use Rattle.engine.proofs.Fits.{class_read}
 use Rattle.engine.proofs.Trails.{steps_none}
-use Rattle.engine.proofs.Fronts.{Room, board_put, added_here, added_room}
+use Rattle.engine.proofs.Fronts.{Room, added_here, added_room}
 
 -- one constant more, in its register n
 pub sets_more : {V : Type 0} (class : V → Class) (cs : List Register) (vs registers : List V) (j n : ℕ) (r : Register) (x : V) → j < length cs → length cs ≡ length vs → n ≡ number r → r ≡ get_or cs j r → x ≡ get_or vs j x →

@@ -77,7 +77,7 @@ impl Book {
         requires { (0 < entry → entry < self.now.used) × (length (steps_to self.now.entries.items entry) ≤ length page.old) }
         ensures { page.new ≡ steps_to self.now.entries.items entry ++ drop (length (steps_to self.now.entries.items entry)) page.old }
     {
-        // Kept a counted walk: each entry leads to the next as in `depth`, where `successors` leaves two goals open.
+        // Kept a counted walk: once a page was written through `iter_mut`, the checker knows its length and not its elements, so its steps could not be promised.
         let mut at = entry;
         let mut left = self.depth(entry);
         while at != 0 {

@@ -7,7 +7,8 @@ use crate::slot::Slot;
 mod calls;
 
 // Sixty-four places for each of five positions, of which the first `counts` are in use; whether more configurations came than may be.
-// Kept two arrays in step: a row's states are searched as one slice, and the watch allocates nothing once it is made.
+// Kept plain tables of states and of entries, arrays of 320: a fixed form of the project, since a position's states are searched as one slice and a watch
+// allocates nothing once it is made.
 // Kept a flag for the spill: a run to `error` is still sought after it, and decides before it.
 #[derive(Clone, Copy)]
 pub struct Front {

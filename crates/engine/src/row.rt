@@ -16,7 +16,7 @@ pub(crate) fn find<K: Kind>(states: &[u8], values: &[K::Value], c: &Configuratio
     requires { 8 * length states.now ≤ length values.now }
     ensures { result ≡ holds alikeᶜ (row K.Kind.class states.now values.now) (stands_for K.Kind.class c.now) }
 {
-    // Kept a nested search over stored configurations and registers, left by a label: a fixed form of the project.
+    // Kept a nested search left by a label: a fixed form of the project, since the first register that differs ends the look at its configuration alone.
     'configurations: for (i, s) in states.iter().enumerate() {
         if *s != c.state {
             continue 'configurations;
@@ -60,7 +60,8 @@ pub(crate) fn write_at<V: Copy>(part: &mut [V], from: usize, values: &[V])
     place.copy_from_slice(values);
 }
 
-// Writes the registers of configuration i of a position: the position's part of the board is lent on.
+// Writes the registers of configuration i of a position.
+// Kept the position's part of the board lent on to be written: a fixed form of the project, so that no other position's registers are in reach of the write.
 pub(crate) fn put_configuration<V: Copy>(
     grid: &mut Grid<V>,
     slot: Slot,
