@@ -13,14 +13,15 @@ use Rattle.engine.specs.declared.entry.Entry.{Entry}
 use Rattle.engine.specs.declared.grid.Grid as G
 use Rattle.engine.specs.declared.row.Crowded.{Crowded}
 use Rattle.engine.specs.Trails.{steps_to, steps_by, room_of}
-use Rattle.engine.specs.Fronts.{row_at, count_at, entries_at, Grid, grid, Room, Comes, Arrives}
+use Rattle.engine.specs.Fronts.{row_at, count_at, entries_at, Grid, grid, Comes, Arrives}
 use Rattle.engine.specs.Grids.{grid_of}
 use Rattle.engine.specs.Fills.{Tracked, Tracks, Fits, Grows, Brought, Brings, Safe}
-use Rattle.engine.proofs.Fronts.{length_row_at, length_entries}
+use Rattle.engine.proofs.Fronts.{Room, room_for, length_row_at, length_entries}
 
 -- a grid whose row has spilled
-abbrev pub spill : {V : Type 0} → Grid V → Grid V
-spill g = grid (record { states = g.front.states; entries = g.front.entries; counts = g.front.counts; spilled = true }) g.rows g.book g.used
+abbrev pub spill : {V : Type 0} (g : Grid V) → length g.front.states ≡ 320 → length g.front.entries ≡ 320 → ((k : ℕ) → count_at g.front k ≤ 64) → Grid V
+spill g long as_long few =
+    grid (record { states = g.front.states; entries = g.front.entries; counts = g.front.counts; spilled = true; long = long; as_long = as_long; few = few }) g.rows g.book g.used
 
 module _ {V : Type 0} (class : V → Class) (cap : ℕ) (P : T.Table) (k : Registers) (w : World) (p : ℕ) where
   -- a position that is as it was is tracked as it was
@@ -28,8 +29,8 @@ module _ {V : Type 0} (class : V → Class) (cap : ℕ) (P : T.Table) (k : Regis
       ((n : ℕ) → n < g.used → steps_to h.book n ≡ steps_to g.book n) → Tracked class cap P k w p g slot → Tracked class cap P k w p h slot
   tracked_kept g h slot five R er (ec, ee) kept t i l =
       let l' : i < count_at g.front slot = omega arith in
-      let n = length_entries class cap slot g five R in
-      let b : get_or (entries_at g.front slot) i 0 < g.used = R.5 slot i (omega arith) in
+      let n = length_entries g.front slot five in
+      let b : get_or (entries_at g.front slot) i 0 < g.used = R.known slot i (omega arith) in
       let s : steps_to h.book (get_or (entries_at h.front slot) i 0) ≡ steps_to g.book (get_or (entries_at g.front slot) i 0) =
       ap (λ z. steps_to h.book (get_or z i 0)) ee ∙ kept (get_or (entries_at g.front slot) i 0) b in
       subst (λ z. Reach P k w p (get_or z i (first_configuration [])) (steps_to h.book (get_or (entries_at h.front slot) i 0))) (sym er)
@@ -56,13 +57,13 @@ module _ {V : Type 0} (class : V → Class) (cap : ℕ) (P : T.Table) (k : Regis
       tracked_more f t i l =
           let new = C.enters.new (some_room f) in
           let a = C.count_here in
-          let n = length_row_at class cap slot g five R in
-          let m = length_entries class cap slot g five R in
+          let n = length_row_at class cap slot g five in
+          let m = length_entries g.front slot five in
           subst (λ z. Reach P k w p (get_or z i (first_configuration [])) (steps_to h.book (get_or (entries_at h.front slot) i 0))) (sym C.row_here)
           (subst (λ z. Reach P k w p (get_or (row_at class cap g slot ++ c ∷ []) i (first_configuration [])) (steps_to h.book (get_or z i 0))) (sym C.entries_here)
           (⊎_elim
           (λ (low : i < count_at g.front slot).
-          let b : get_or (entries_at g.front slot) i 0 < g.used = R.5 slot i (omega arith) in
+          let b : get_or (entries_at g.front slot) i 0 < g.used = R.known slot i (omega arith) in
           let s : steps_to h.book (get_or (entries_at g.front slot ++ C.entry ∷ []) i 0) ≡ steps_to g.book (get_or (entries_at g.front slot) i 0) =
           ap (steps_to h.book) (get_or_append_left (entries_at g.front slot) (C.entry ∷ []) 0 i (omega arith)) ∙ C.enters.old (get_or (entries_at g.front slot) i 0) b in
           subst (λ z. Reach P k w p z (steps_to h.book (get_or (entries_at g.front slot ++ C.entry ∷ []) i 0))) (sym (get_or_append_left (row_at class cap g slot) (c ∷ []) (first_configuration []) i (omega arith)))
@@ -99,8 +100,9 @@ module _ {V : Type 0} (class : V → Class) (cap : ℕ) (P : T.Table) (k : Regis
       tracked = λ _ t. t;
     }
 
-    pub grows_spilled : (c : Configuration) → holds alikeᶜ (row_at class cap g slot) c ≡ false → length (row_at class cap g slot) ≡ cap → Grows class cap slot P k w p g (spill g) (c ∷ [])
-    grows_spilled c e n = record {
+    pub grows_spilled : (c : Configuration) → holds alikeᶜ (row_at class cap g slot) c ≡ false → length (row_at class cap g slot) ≡ cap → (l : length g.front.states ≡ 320) (m : length g.front.entries ≡ 320) (few : (j : ℕ) → count_at g.front j ≤ 64) →
+        Grows class cap slot P k w p g (spill g l m few) (c ∷ [])
+    grows_spilled c e n l m few = record {
       other = λ j l n. refl;
       fill = λ truth f. filled_spilled cap (row_at class cap g slot) truth g.front.spilled f c e n;
       kept = λ n l. refl;
@@ -121,8 +123,11 @@ module _ {V : Type 0} (class : V → Class) (cap : ℕ) (P : T.Table) (k : Regis
       brought_in (Ok _) i (inr a) m = (safe, grows_added h c from a m)
       brought_in (Err _) i a m = absurd (true≢false i)
 
-      pub brought_over : (r : Result (Unit {0}) Crowded) → is_err r ≡ true → Arrives class cap g h slot from c r → Brought class cap slot P k w p g (spill h) (c ∷ []) (Ok tt)
-      brought_over (Err _) i a = subst (λ z. Brought class cap slot P k w p g (spill z) (c ∷ []) (Ok tt)) (sym a.2) (safe, grows_spilled c a.0 a.1)
+      pub brought_over : (r : Result (Unit {0}) Crowded) → is_err r ≡ true → Arrives class cap g h slot from c r → (l : length h.front.states ≡ 320) (m : length h.front.entries ≡ 320) (few : (j : ℕ) → count_at h.front j ≤ 64) →
+          Brought class cap slot P k w p g (spill h l m few) (c ∷ []) (Ok tt)
+      brought_over (Err _) i a =
+          subst (λ z. (l : length z.front.states ≡ 320) (m : length z.front.entries ≡ 320) (few : (j : ℕ) → count_at z.front j ≤ 64) → Brought class cap slot P k w p g (spill z l m few) (c ∷ []) (Ok tt)) (sym a.2)
+          (λ l m few. (safe, grows_spilled c a.0 a.1 l m few))
       brought_over (Ok _) i a = absurd (true≢false (sym i))
 
     pub brought_none : (added : List Configuration) → added ≡ [] → Brought class cap slot P k w p g g added (Ok tt)
@@ -165,11 +170,11 @@ safe_on slot g h j r A B = record {
 
 -- a grid with the cap of another has room by it
 pub room_by : {V : Type 0} (cap : ℕ) (h : G.Grid V) → h.cap ≡ cap → Room cap (grid_of h)
-room_by cap h e = subst (λ (z : ℕ). Room z (grid_of h)) e h.room
+room_by cap h e = subst (λ (z : ℕ). Room z (grid_of h)) e (room_for h)
 
 module _ {V : Type 0} (class : V → Class) (slot : ℕ) (P : T.Table) (k : Registers) (w : World) (p : ℕ) where
   pub brings_none : slot < 5 → (g : G.Grid V) (added : List Configuration) → added ≡ [] → Brings class slot P k w p g g added (Ok tt)
-  brings_none five g added e = brought_none class g.cap P k w p slot five (grid_of g) g.room added e
+  brings_none five g added e = brought_none class g.cap P k w p slot five (grid_of g) (room_for g) added e
 
   pub brings_on : (g h j : G.Grid V) → h.cap ≡ g.cap → (xs ys : List Configuration) (r : Result (Unit {0}) Entry) → Brings class slot P k w p g h xs (Ok tt) → Brings class slot P k w p h j ys r → Brings class slot P k w p g j (xs ++ ys) r
   brings_on g h j e xs ys r A B =
@@ -180,7 +185,7 @@ pub tracks_kept : {V : Type 0} (class : V → Class) (P : T.Table) (k : Register
     row_at class g.cap (grid_of h) slot ≡ row_at class g.cap (grid_of g) slot → (count_at h.front slot ≡ count_at g.front slot) × (entries_at h.front slot ≡ entries_at g.front slot) →
     ((n : ℕ) → n < g.book.used → steps_to (vec_items h.book.entries) n ≡ steps_to (vec_items g.book.entries) n) → Tracks class P k w p g slot → Tracks class P k w p h slot
 tracks_kept class P k w p g h slot five e er ec kept t =
-    subst (λ (z : ℕ). Tracked class z P k w p (grid_of h) slot) (sym e) (tracked_kept class g.cap P k w p (grid_of g) (grid_of h) slot five g.room er ec kept t)
+    subst (λ (z : ℕ). Tracked class z P k w p (grid_of h) slot) (sym e) (tracked_kept class g.cap P k w p (grid_of g) (grid_of h) slot five (room_for g) er ec kept t)
 
 -- a configuration that was read at a tracked position is reached by the steps of its entry
 pub entered_reach : {V : Type 0} (class : V → Class) (P : T.Table) (k : Registers) (w : World) (p : ℕ) (g : G.Grid V) (slot i : ℕ) (c : Configuration) (n : ℕ) → i < count_at g.front slot →

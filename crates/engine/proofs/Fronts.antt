@@ -1,58 +1,66 @@
 -- Laws of rows.
-use Rattle.std.proofs.Common.{◌≡◌, ℕ, zero, suc, ◌+◌, ◌-◌, ◌*◌, ◌<◌, ◌≤◌, false, List, [], ◌∷◌, ◌++◌, length, get_or, take, drop, set, sym, refl, ap, ◌∙◌, subst, ap₂, ⊎_elim, append_assoc, add_assoc, mul-le-mul_right, add-mul, arith, length-drop, length-take, take-add, vec_items, Vec}
+use Rattle.std.proofs.Common.{◌≡◌, ℕ, zero, suc, ◌+◌, ◌-◌, ◌*◌, ◌<◌, ◌≤◌, Bool, false, List, [], ◌∷◌, ◌++◌, length, get_or, take, drop, sym, refl, ap, ◌∙◌, subst, ap₂, ⊎_elim, append_assoc, add_assoc, mul-le-mul_right, add-mul, arith, length-drop, length-take, take-add, vec_items, Vec}
 use lib.Seq.{paste, take-paste, drop-paste, length-paste}
 use borrow.Rule.Slice.PartMut.{put_mid}
-use Rattle.std.proofs.lemmas.List.{drop-set-add, drop-set-lt, take-set-le, take_more_set, get_or-set_same, get_or-set_other, take-take, drop-take, drop-drop, take-append-drop, drop-append-le, take-append-le, length-take-le, drop_at, take_all, length-set, get_or-take, get_or-drop, with_items_is}
+use Rattle.std.proofs.lemmas.List.{take-take, drop-take, drop-drop, take-append-drop, drop-append-le, take-append-le, length-take-le, drop_at, take_all, get_or-take, get_or-drop, with_items_is}
 use Rattle.std.proofs.lemmas.Bool.{cases_lt, cases_eq}
 use Rattle.std.specs.Vec.{with_items}
 use Rattle.topl.specs.Lists.{Class, holds}
 use Rattle.topl.specs.Runs.{Configuration, alikeᶜ}
 use Rattle.engine.specs.declared.front.Front.{Front}
 use Rattle.engine.specs.declared.entry.Entry.{Entry}
+use Rattle.engine.specs.declared.book.Book.{Book}
+use Rattle.engine.specs.declared.configuration.Configuration as C
+use Rattle.engine.specs.declared.grid.Grid as TheGrid
 use Rattle.engine.specs.Trails.{Enters}
-use Rattle.engine.specs.Fronts.{Added, count_at, states_at, entries_at, configuration, row, row_at, Grid, grid, Below, Room, Comes}
+use Rattle.engine.specs.Fronts.{Added, Cleared, count_at, states_at, entries_at, configuration, stands_for, stored, row, row_at, Grid, grid, Below, Comes}
+use Rattle.engine.specs.Grids.{grid_of}
 
-module _ (xs : List ℕ) (s n x : ℕ) where
-  states_here : 64 * s + n < length xs → take (n + 1) (drop (64 * s) (set xs (64 * s + n) x)) ≡ take n (drop (64 * s) xs) ++ x ∷ []
-  states_here h = ap (take (n + 1)) (drop-set-add (64 * s) xs n x) ∙ take_more_set (drop (64 * s) xs) n x (simp length-drop (omega arith))
+-- At most 64 are allowed for, the board has a place for each, no position has more, and the entries of all of them count.
+pub record Room {V : Type 0} (cap : ℕ) (g : Grid V) : Type 0 where
+  pub few : cap ≤ 64
+  pub wide : 40 * cap ≤ length g.rows
+  pub held : (k : ℕ) → count_at g.front k ≤ cap
+  pub known : (k : ℕ) → Below g.used (entries_at g.front k)
 
-  states_other : (k m : ℕ) → (k ≡ s → ⊥) → n < 64 → m ≤ 64 → take m (drop (64 * k) (set xs (64 * s + n) x)) ≡ take m (drop (64 * k) xs)
-  states_other k m ne h l =
-      ⊎_elim
-      (λ lt. let d : ℕ = 64 * s + n - 64 * k in
-      let e : 64 * s + n ≡ 64 * k + d = omega arith in
-      ap (λ (z : ℕ). take m (drop (64 * k) (set xs z x))) e ∙ (ap (take m) (drop-set-add (64 * k) xs d x) ∙ take-set-le m (drop (64 * k) xs) d x (omega arith)))
-      (λ ge. let gt : s < k = omega (arith, λ (z : k ≡ s). ne z) in
-      ap (take m) (drop-set-lt (64 * k) xs (64 * s + n) x (omega arith)))
-      (cases_lt k s)
+-- a grid has room
+pub room_for : {V : Type 0} (g : TheGrid.Grid V) → Room g.cap (grid_of g)
+room_for g = record { few = g.few; wide = (let a = g.board.ok.0 in let b = g.wide in omega arith); held = g.held; known = g.known }
 
--- one configuration more
-module _ (F : Front) (slot state entry : ℕ) (in' : slot < length F.counts) (ls : length F.states ≡ 320) (le : length F.entries ≡ 320) (five : slot < 5) (room : count_at F slot < 64) (few : (k : ℕ) → count_at F k ≤ 64) where
-  here : get_or (set F.counts slot (count_at F slot + 1)) slot 0 ≡ count_at F slot + 1
-  here = get_or-set_same F.counts slot (count_at F slot + 1) 0 in'
+-- the states and the entries at a position are as many as its configurations
+pub length_states : (F : Front) (k : ℕ) → k < 5 → length (states_at F k) ≡ count_at F k
+length_states F k l = length-take-le (count_at F k) (drop (64 * k) F.states) (let z = length-drop (64 * k) F.states in let a = F.long in let b = F.few k in omega arith)
 
-  there : (k : ℕ) → (k ≡ slot → ⊥) → get_or (set F.counts slot (count_at F slot + 1)) k 0 ≡ count_at F k
-  there k ne = get_or-set_other F.counts slot k (count_at F slot + 1) 0 ne
+pub length_entries : (F : Front) (k : ℕ) → k < 5 → length (entries_at F k) ≡ count_at F k
+length_entries F k l = length-take-le (count_at F k) (drop (64 * k) F.entries) (let z = length-drop (64 * k) F.entries in let a = F.as_long in let b = F.few k in omega arith)
 
-  pushed : (xs : List ℕ) (x : ℕ) → length xs ≡ 320 → take (get_or (set F.counts slot (count_at F slot + 1)) slot 0) (drop (64 * slot) (set xs (64 * slot + count_at F slot) x)) ≡ take (count_at F slot) (drop (64 * slot) xs) ++ x ∷ []
-  pushed xs x e = ap (λ (z : ℕ). take z (drop (64 * slot) (set xs (64 * slot + count_at F slot) x))) here ∙ states_here xs slot (count_at F slot) x (omega arith)
+-- a grid whose front was cleared at a position has room
+pub cleared_room : {V : Type 0} (g : TheGrid.Grid V) (G : Front) (slot : ℕ) → Cleared g.front G slot → Room g.cap (grid G (vec_items g.board) (vec_items g.book.entries) g.book.used)
+cleared_room g G slot C =
+    let R = room_for g in record {
+      few = R.few;
+      wide = R.wide;
+      held = λ k. ⊎_elim (λ (q : k ≡ slot). let a = none k q in omega arith) (λ ne. let a = C.count_other k ne in let b = R.held k in omega arith) (cases_eq k slot);
+      known = λ k i l. ⊎_elim
+          (λ (q : k ≡ slot). let a : length (entries_at G k) ≡ 0 = ap (λ (n : ℕ). length (take n (drop (64 * k) G.entries))) (none k q) in absurd (omega arith))
+          (λ ne. subst (Below g.book.used) (ap₂ (λ (n : ℕ) z. take n (drop (64 * k) z)) (sym (C.count_other k ne)) (sym C.entries)) (R.known k) i l)
+          (cases_eq k slot);
+    }
+  where
+    none : (k : ℕ) → k ≡ slot → count_at G k ≡ 0
+    none k q = ap (count_at G) q ∙ C.count_here
 
-  spared : (xs : List ℕ) (x k : ℕ) → (k ≡ slot → ⊥) → take (get_or (set F.counts slot (count_at F slot + 1)) k 0) (drop (64 * k) (set xs (64 * slot + count_at F slot) x)) ≡ take (count_at F k) (drop (64 * k) xs)
-  spared xs x k ne = ap (λ (z : ℕ). take z (drop (64 * k) (set xs (64 * slot + count_at F slot) x))) (there k ne) ∙ states_other xs slot (count_at F slot) x k (count_at F k) ne room (few k)
+-- entry i of a position, as it is read
+entry_read : (F : Front) (k i : ℕ) → i < count_at F k → get_or F.entries (64 * k + i) 0 ≡ get_or (entries_at F k) i 0
+entry_read F k i l = sym (get_or-take (count_at F k) (drop (64 * k) F.entries) i 0 l ∙ get_or-drop (64 * k) F.entries i 0)
 
-  pub added : Added F
-      (record { states = set F.states (64 * slot + count_at F slot) state; entries = set F.entries (64 * slot + count_at F slot) entry; counts = set F.counts slot (count_at F slot + 1); spilled = F.spilled }) slot state entry
-  added = record {
-    long = length-set F.states (64 * slot + count_at F slot) state;
-    long_entries = length-set F.entries (64 * slot + count_at F slot) entry;
-    count_here = here;
-    count_other = there;
-    states_here = pushed F.states state ls;
-    states_other = spared F.states state;
-    entries_here = pushed F.entries entry le;
-    entries_other = spared F.entries entry;
-    spilled = refl;
-  }
+-- and it counts
+pub entry_known : {V : Type 0} (cap slot i : ℕ) (g : Grid V) → slot < 5 → Room cap g → i < count_at g.front slot → get_or g.front.entries (64 * slot + i) 0 < g.used
+entry_known cap slot i g five R l =
+    let n = length_entries g.front slot five in
+    let e = entry_read g.front slot i l in
+    let b = R.known slot i (omega arith) in
+    omega arith
 
 -- one number more, below a bound that may have grown
 pub below_push : (used used' n : ℕ) (ns : List ℕ) → used ≤ used' → n < used' → Below used ns → Below used' (ns ++ n ∷ [])
@@ -63,7 +71,7 @@ below_push used used' n (x ∷ ns) m l b (suc j) i = below_push used used' n ns 
 
 -- a part of a board that was written, in its board
 module _ {X : Type 0} (xs rs : List X) (at n i k : ℕ) (a : at + n ≤ length xs) (b : i + k ≤ n) where
-  pub put_part : put_mid at n xs (paste (take n (drop at xs)) i rs k) ≡ paste xs (at + i) rs k
+  put_part : put_mid at n xs (paste (take n (drop at xs)) i rs k) ≡ paste xs (at + i) rs k
   put_part =
       let ik : i ≤ n = omega arith in
       let lt : i + k ≤ length (take n (drop at xs)) = simp (length-take, length-drop) (omega arith) in
@@ -72,11 +80,12 @@ module _ {X : Type 0} (xs rs : List X) (at n i k : ℕ) (a : at + n ≤ length x
       sym (drop-append-le (i + k) (take n (drop at xs)) (drop n (drop at xs)) lt) ∙ (ap (drop (i + k)) (take-append-drop n (drop at xs)) ∙ drop-drop (i + k) at xs) in
       simp (append_assoc, x1, x2, take-add, add_assoc)
 
--- a board that was lent, with some values written
-pub board_put : {X Z : Type 0} (v : Vec X Z) (lent back rs : List X) (at : ℕ) → lent ≡ vec_items v → back ≡ paste lent at rs (length rs) → at + length rs ≤ length (vec_items v) → vec_items (with_items v back) ≡ paste (vec_items v) at rs (length rs)
-board_put v lent back rs at e f l =
-    let g : back ≡ paste (vec_items v) at rs (length rs) = f ∙ ap (λ z. paste z at rs (length rs)) e in
-    with_items_is v back (ap length g ∙ (length-paste (vec_items v) at rs (length rs) l (omega arith) ∙ sym v.ok.0)) ∙ g
+-- a board whose part was lent, and written in it
+pub board_put : {X Z : Type 0} (v : Vec X Z) (lent part rs : List X) (at n i : ℕ) → lent ≡ vec_items v → part ≡ stored (take n (drop at lent)) i rs → at + n ≤ length (vec_items v) → i + length rs ≤ n →
+    vec_items (with_items v (put_mid at n lent part)) ≡ stored (vec_items v) (at + i) rs
+board_put v lent part rs at n i e f l m =
+    let g : put_mid at n lent part ≡ stored (vec_items v) (at + i) rs = ap (put_mid at n lent) f ∙ (ap (λ z. put_mid at n z (stored (take n (drop at z)) i rs)) e ∙ put_part (vec_items v) rs at n i (length rs) l m) in
+    with_items_is v (put_mid at n lent part) (ap length g ∙ (length-paste (vec_items v) (at + i) rs (length rs) (omega arith) (omega arith) ∙ sym v.ok.0)) ∙ g
 
 -- what a write of k values at a place leaves, and where
 module _ {X : Type 0} (xs rs : List X) (at k : ℕ) (h : at + k ≤ length xs) (e : length rs ≡ k) where
@@ -125,9 +134,6 @@ module _ {V : Type 0} (class : V → Class) where
   length_row [] vs = refl
   length_row (s ∷ ss) vs = ap suc (length_row ss (drop 8 vs))
 
-  pub length_states : (F : Front) (k : ℕ) → length F.states ≡ 320 → k < 5 → count_at F k ≤ 64 → length (states_at F k) ≡ count_at F k
-  length_states F k e l m = length-take-le (count_at F k) (drop (64 * k) F.states) (let z = length-drop (64 * k) F.states in omega arith)
-
   module _ (cap slot state entry : ℕ) (g : Grid V) (G : Front) (registers : List V) (fs : List Entry) (used' : ℕ) (five : slot < 5) (R : Room cap g) (l : count_at g.front slot < cap) (e : length registers ≡ 8) (A : Added g.front G slot state entry) where
     abbrev pub news : List V
     news = paste g.rows (slot * (8 * cap) + 8 * count_at g.front slot) registers 8
@@ -135,15 +141,12 @@ module _ {V : Type 0} (class : V → Class) where
     inner : slot * (8 * cap) + 8 * cap ≤ 40 * cap
     inner = let h : slot + 1 ≤ 5 = omega arith in omega (arith, mul-le-mul_right (8 * cap) h, add-mul slot 1 (8 * cap))
 
-    fits_in : slot * (8 * cap) + 8 * count_at g.front slot + 8 ≤ length g.rows
-    fits_in = let a = inner in let b = R.1 in omega arith
-
-    few : count_at g.front slot ≤ 64
-    few = let a = R.0 in let b = R.3 slot in omega arith
+    pub fits_in : slot * (8 * cap) + 8 * count_at g.front slot + 8 ≤ length g.rows
+    fits_in = let a = inner in let b = R.wide in omega arith
 
     pub added_here : row_at class cap (grid G news fs used') slot ≡ row_at class cap g slot ++ configuration class state registers ∷ []
     added_here =
-        let n : length (states_at g.front slot) ≡ count_at g.front slot = length_states g.front slot R.2 five few in
+        let n : length (states_at g.front slot) ≡ count_at g.front slot = length_states g.front slot five in
         let f = fits_in in
         let at : ℕ = slot * (8 * cap) in
         let low : take (8 * length (states_at g.front slot)) (drop at news) ≡ take (8 * length (states_at g.front slot)) (drop at g.rows) =
@@ -155,9 +158,9 @@ module _ {V : Type 0} (class : V → Class) where
 
     added_other : (k : ℕ) → k < 5 → (k ≡ slot → ⊥) → row_at class cap (grid G news fs used') k ≡ row_at class cap g k
     added_other k five' ne =
-        let n : length (states_at g.front k) ≡ count_at g.front k = length_states g.front k R.2 five' (let a = R.0 in let b = R.3 k in omega arith) in
+        let n : length (states_at g.front k) ≡ count_at g.front k = length_states g.front k five' in
         let f = fits_in in
-        let m = R.3 k in
+        let m = R.held k in
         let at : ℕ = slot * (8 * cap) in
         let to : ℕ = k * (8 * cap) in
         let same : take (8 * length (states_at g.front k)) (drop to news) ≡ take (8 * length (states_at g.front k)) (drop to g.rows) =
@@ -171,15 +174,13 @@ module _ {V : Type 0} (class : V → Class) where
 
     pub added_room : g.used ≤ used' → entry < used' → Room cap (grid G news fs used')
     added_room m b =
-        let f = fits_in in (
-          R.0,
-          (let n = length-paste g.rows (slot * (8 * cap) + 8 * count_at g.front slot) registers 8 f (omega arith) in let m = R.1 in omega arith),
-          A.long ∙ R.2,
-          λ k. ⊎_elim (λ (q : k ≡ slot). subst (λ (z : ℕ). count_at G z ≤ cap) (sym q) (let a = A.count_here in omega arith)) (λ ne. let a = A.count_other k ne in let b = R.3 k in omega arith) (cases_eq k slot),
-          A.long_entries ∙ R.4,
-          λ k. ⊎_elim (λ (q : k ≡ slot). subst (λ (z : ℕ). Below used' (entries_at G z)) (sym q) (subst (Below used') (sym A.entries_here) (below_push g.used used' entry (entries_at g.front slot) m b (R.5 slot))))
-              (λ ne. subst (Below used') (sym (A.entries_other k ne)) (λ i h. let z = R.5 k i h in omega arith)) (cases_eq k slot),
-        )
+        let f = fits_in in record {
+          few = R.few;
+          wide = (let n = length-paste g.rows (slot * (8 * cap) + 8 * count_at g.front slot) registers 8 f (omega arith) in let m = R.wide in omega arith);
+          held = λ k. ⊎_elim (λ (q : k ≡ slot). subst (λ (z : ℕ). count_at G z ≤ cap) (sym q) (let a = A.count_here in omega arith)) (λ ne. let a = A.count_other k ne in let b = R.held k in omega arith) (cases_eq k slot);
+          known = λ k. ⊎_elim (λ (q : k ≡ slot). subst (λ (z : ℕ). Below used' (entries_at G z)) (sym q) (subst (Below used') (sym A.entries_here) (below_push g.used used' entry (entries_at g.front slot) m b (R.known slot))))
+              (λ ne. subst (Below used') (sym (A.entries_other k ne)) (λ i h. let z = R.known k i h in omega arith)) (cases_eq k slot);
+        }
 
     pub comes : (from : Entry) → Enters g.book g.used from fs used' entry → holds alikeᶜ (row_at class cap g slot) (configuration class state registers) ≡ false →
         Comes class cap g (grid G news fs used') slot from (configuration class state registers)
@@ -195,37 +196,8 @@ module _ {V : Type 0} (class : V → Class) where
       spilled = A.spilled;
     }
 
-  -- what the search in a position's part finds
-  pub row_part : (cap slot : ℕ) (g : Grid V) (part : List V) (states : List ℕ) → slot < 5 → Room cap g → states ≡ states_at g.front slot → part ≡ take (8 * cap) (drop (slot * (8 * cap)) g.rows) → row class states part ≡ row_at class cap g slot
-  row_part cap slot g part states five R es ep =
-      let a = R.0 in
-      let b = R.3 slot in
-      let n : length (states_at g.front slot) ≡ count_at g.front slot = length_states g.front slot R.2 five (omega arith) in
-      ap₂ (row class) es ep ∙ row_front (states_at g.front slot) (drop (slot * (8 * cap)) g.rows) (8 * cap) (omega arith)
-
-  pub length_row_at : (cap slot : ℕ) (g : Grid V) → slot < 5 → Room cap g → length (row_at class cap g slot) ≡ count_at g.front slot
-  length_row_at cap slot g five R =
-      let a = R.0 in
-      let b = R.3 slot in
-      length_row (states_at g.front slot) (drop (slot * (8 * cap)) g.rows) ∙ length_states g.front slot R.2 five (omega arith)
-
-  pub length_entries : (cap slot : ℕ) (g : Grid V) → slot < 5 → Room cap g → length (entries_at g.front slot) ≡ count_at g.front slot
-  length_entries cap slot g five R =
-      let a = R.0 in
-      let b = R.3 slot in
-      let d = R.4 in
-      length-take-le (count_at g.front slot) (drop (64 * slot) g.front.entries) (let z = length-drop (64 * slot) g.front.entries in omega arith)
-
-  -- entry i of a position, as it is read
-  pub entry_read : (cap slot i : ℕ) (g : Grid V) → slot < 5 → Room cap g → i < count_at g.front slot → get_or g.front.entries (64 * slot + i) 0 ≡ get_or (entries_at g.front slot) i 0
-  entry_read cap slot i g five R l = sym (get_or-take (count_at g.front slot) (drop (64 * slot) g.front.entries) i 0 l ∙ get_or-drop (64 * slot) g.front.entries i 0)
-
-  pub entry_known : (cap slot i : ℕ) (g : Grid V) → slot < 5 → Room cap g → i < count_at g.front slot → get_or g.front.entries (64 * slot + i) 0 < g.used
-  entry_known cap slot i g five R l =
-      let n = length_entries cap slot g five R in
-      let e = entry_read cap slot i g five R l in
-      let b = R.5 slot i (omega arith) in
-      omega arith
+  pub length_row_at : (cap slot : ℕ) (g : Grid V) → slot < 5 → length (row_at class cap g slot) ≡ count_at g.front slot
+  length_row_at cap slot g five = length_row (states_at g.front slot) (drop (slot * (8 * cap)) g.rows) ∙ length_states g.front slot five
 
   row_get : (ss : List ℕ) (vs : List V) (i : ℕ) (d : Configuration) → i < length ss → configuration class (get_or ss i 0) (take 8 (drop (8 * i) vs)) ≡ get_or (row class ss vs) i d
   row_get [] vs i d l = absurd (omega arith)
@@ -235,11 +207,45 @@ module _ {V : Type 0} (class : V → Class) where
       ap (λ z. configuration class (get_or ss i 0) (take 8 z)) (ap (λ (z : ℕ). drop z vs) (sym a) ∙ sym (drop-drop (8 * i) 8 vs)) ∙ row_get ss (drop 8 vs) i d (omega arith)
 
   -- configuration i of a position, as it is read
-  pub row_read : (cap slot i : ℕ) (g : Grid V) (held : List V) (d : Configuration) → slot < 5 → Room cap g → i < count_at g.front slot → held ≡ take 8 (drop (8 * i) (drop (slot * (8 * cap)) g.rows)) →
+  pub row_read : (cap slot i : ℕ) (g : Grid V) (held : List V) (d : Configuration) → slot < 5 → i < count_at g.front slot → held ≡ take 8 (drop (8 * i) (drop (slot * (8 * cap)) g.rows)) →
       configuration class (get_or g.front.states (64 * slot + i) 0) held ≡ get_or (row_at class cap g slot) i d
-  row_read cap slot i g held d five R l e =
-      let a = R.0 in
-      let b = R.3 slot in
-      let n = length_states g.front slot R.2 five (omega arith) in
+  row_read cap slot i g held d five l e =
+      let n = length_states g.front slot five in
       let s : get_or g.front.states (64 * slot + i) 0 ≡ get_or (states_at g.front slot) i 0 = sym (get_or-take (count_at g.front slot) (drop (64 * slot) g.front.states) i 0 l ∙ get_or-drop (64 * slot) g.front.states i 0) in
       ap₂ (configuration class) s e ∙ row_get (states_at g.front slot) (drop (slot * (8 * cap)) g.rows) i d (omega arith)
+
+  module _ (s : TheGrid.Grid V) (slot : ℕ) (c : C.Configuration V) (five : slot < 5) where
+    -- what the search in a position's part finds is what its row holds
+    pub searched : (states : List ℕ) (part : List V) (found : Bool) → states ≡ states_at s.front slot → part ≡ take (8 * s.cap) (drop (slot * (8 * s.cap)) (vec_items s.board)) →
+        found ≡ holds alikeᶜ (row class states part) (stands_for class c) → holds alikeᶜ (row_at class s.cap (grid_of s) slot) (stands_for class c) ≡ found
+    searched states part found es ep e =
+        let b = s.held slot in
+        let n = length_states s.front slot five in
+        sym (e ∙ ap (λ z. holds alikeᶜ z (stands_for class c)) (ap₂ (row class) es ep ∙ row_front (states_at s.front slot) (drop (slot * (8 * s.cap)) (vec_items s.board)) (8 * s.cap) (omega arith)))
+
+    -- a configuration whose registers were written to the board, and that was entered and added to the front
+    module _ (t : TheGrid.Grid V) (entry count : ℕ) (F : Front) (b : Book) (from : Entry) (n : count ≡ count_at s.front slot) (l : count < s.cap)
+        (put : vec_items t.board ≡ stored (vec_items s.board) (slot * (8 * s.cap) + 8 * count) c.registers) (same : (t.front ≡ s.front) × (t.book ≡ s.book) × (t.cap ≡ s.cap))
+        (A : Added t.front F slot c.state entry) (E : Enters (vec_items t.book.entries) t.book.used from (vec_items b.entries) b.used entry) where
+      abbrev pub after : Grid V
+      after = grid F (vec_items t.board) (vec_items b.entries) b.used
+
+      here : count_at s.front slot < s.cap
+      here = omega arith
+
+      adds : Added s.front F slot c.state entry
+      adds = subst (λ z. Added z F slot c.state entry) same.0 A
+
+      enters : Enters (vec_items s.book.entries) s.book.used from (vec_items b.entries) b.used entry
+      enters = subst (λ (z : Book). Enters (vec_items z.entries) z.used from (vec_items b.entries) b.used entry) same.1 E
+
+      news_put : news s.cap slot c.state entry (grid_of s) F c.registers (vec_items b.entries) b.used five (room_for s) here c.eight adds ≡ vec_items t.board
+      news_put = sym (put ∙ ap₂ (λ (x y : ℕ). paste (vec_items s.board) (slot * (8 * s.cap) + 8 * x) c.registers y) n c.eight)
+
+      pub arrived_room : Room t.cap after
+      arrived_room = subst (λ (y : ℕ). Room y after) (sym same.2) (subst (λ z. Room s.cap (grid F z (vec_items b.entries) b.used)) news_put
+          (added_room s.cap slot c.state entry (grid_of s) F c.registers (vec_items b.entries) b.used five (room_for s) here c.eight adds enters.more enters.known))
+
+      pub arrived : holds alikeᶜ (row_at class s.cap (grid_of s) slot) (stands_for class c) ≡ false → Comes class s.cap (grid_of s) after slot from (stands_for class c)
+      arrived u = subst (λ z. Comes class s.cap (grid_of s) (grid F z (vec_items b.entries) b.used) slot from (stands_for class c)) news_put
+          (comes s.cap slot c.state entry (grid_of s) F c.registers (vec_items b.entries) b.used five (room_for s) here c.eight adds from enters u)

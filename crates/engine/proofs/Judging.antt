@@ -14,10 +14,10 @@ use Rattle.topl.proofs.Step.{stepping}
 use Rattle.engine.specs.declared.front.Decision.{Decision}
 use Rattle.engine.specs.declared.front.Decision.TheVariants.{Breaks, Spills, Overfills}
 use Rattle.engine.specs.Trails.{room_of, steps_by}
-use Rattle.engine.specs.Fronts.{row_at, count_at, Grid, grid, Room, Spares}
+use Rattle.engine.specs.Fronts.{row_at, count_at, Grid, grid, Spares}
 use Rattle.engine.specs.Fills.{Ready, Stood, Grows, Fills, Fits, Tracked}
 use Rattle.engine.specs.Judging.{ruled, ShowsRun, Balance, Judged, Held, Start, Decided}
-use Rattle.engine.proofs.Fronts.{length_row_at}
+use Rattle.engine.proofs.Fronts.{Room, length_row_at}
 use Rattle.engine.proofs.Fills.{tracked_kept}
 
 -- the entries before position p is filled
@@ -42,31 +42,33 @@ module _ {V : Type 0} (class : V → Class) (cap : ℕ) (g h : Grid V) (base p :
   abbrev pub came : List Configuration
   came = incoming P w row p base (p - base)
 
-  abbrev pub begun : Grid V
-  begun = grid (record g.front { spilled = false }) g.rows g.book g.used
-
   pub came_errors : D.any_error (reached P k w p) ≡ D.any_error came
   came_errors = errs P k L w row base p R.steps R.from R.earlier (row p) R.before ∙ ap (λ (b : Bool). b || D.any_error came) R.safe
 
-  filled : Grows class cap (p % 5) P k w p begun h came → Filled cap (row_at class cap h (p % 5)) (row p ++ came) h.front.spilled
-  filled G = G.fill (row p) (filled_first cap (row p) R.once)
+  module _ (long : length g.front.states ≡ 320) (as_long : length g.front.entries ≡ 320) (few : (j : ℕ) → count_at g.front j ≤ 64) where
+    -- the grid before anything came
+    abbrev pub begun : Grid V
+    begun = grid (record { states = g.front.states; entries = g.front.entries; counts = g.front.counts; spilled = false; long = long; as_long = as_long; few = few }) g.rows g.book g.used
 
-  pub came_spills : Grows class cap (p % 5) P k w p begun h came → h.front.spilled ≡ true → cap < D.count P k w p
-  came_spills G s = over_count P k L w row base p R.steps R.from R.earlier (row p) R.before cap ((filled G).over s)
+    filled : Grows class cap (p % 5) P k w p begun h came → Filled cap (row_at class cap h (p % 5)) (row p ++ came) h.front.spilled
+    filled G = G.fill (row p) (filled_first cap (row p) R.once)
 
-  pub came_stands : base ≤ p → D.any_error came ≡ false → Grows class cap (p % 5) P k w p begun h came → h.front.spilled ≡ false → Stood class cap g h p P k w
-  came_stands from e G s =
-      let new = row_at class cap h (p % 5) in
-      let f = subst (Filled cap new (row p ++ came)) s (filled G) in record {
-        no_error = came_errors ∙ e;
-        stands = filled_stands P k L w row base p R.steps R.from R.earlier (row p) R.before cap new f;
-        once = f.distinct;
-        other = G.other;
-        kept = G.kept;
-        long = G.long;
-        counted = G.counted;
-        tracked = λ z. G.tracked z (R.tracked p from (omega arith));
-      }
+    pub came_spills : Grows class cap (p % 5) P k w p begun h came → h.front.spilled ≡ true → cap < D.count P k w p
+    came_spills G s = over_count P k L w row base p R.steps R.from R.earlier (row p) R.before cap ((filled G).over s)
+
+    pub came_stands : base ≤ p → D.any_error came ≡ false → Grows class cap (p % 5) P k w p begun h came → h.front.spilled ≡ false → Stood class cap g h p P k w
+    came_stands from e G s =
+        let new = row_at class cap h (p % 5) in
+        let f = subst (Filled cap new (row p ++ came)) s (filled G) in record {
+          no_error = came_errors ∙ e;
+          stands = filled_stands P k L w row base p R.steps R.from R.earlier (row p) R.before cap new f;
+          once = f.distinct;
+          other = G.other;
+          kept = G.kept;
+          long = G.long;
+          counted = G.counted;
+          tracked = λ z. G.tracked z (R.tracked p from (omega arith));
+        }
 
 module _ (P : T.Table) (k : Registers) (cap book : ℕ) (before now : World) (p : ℕ) where
   pub rules_broken : D.any_error (reached P k now p) ≡ true → D.breaks p ≡ D.ruling_at P k cap book before now p
@@ -117,7 +119,7 @@ module _ {V : Type 0} (class : V → Class) (cap : ℕ) (g h : Grid V) (p : ℕ)
 
   -- as many as are reached
   counted : (v : World) (j : Grid V) → Room cap j → Stands P k v p (row_at class cap j (p % 5)) → apart alikeᶜ (row_at class cap j (p % 5)) ≡ true → count_at j.front (p % 5) ≡ D.count P k v p
-  counted v j R stands once = sym (length_row_at class cap (p % 5) j (omega arith) R) ∙ stepping.1 P k v p (row_at class cap j (p % 5)) stands once
+  counted v j R stands once = sym (length_row_at class cap (p % 5) j (omega arith)) ∙ stepping.1 P k v p (row_at class cap j (p % 5)) stands once
 
   module _ (base : ℕ) (R : Ready class cap g base p P k L w) (before : Room cap g) (after : Room cap h) (B : Balance g.used p P k L w) (S : Stood class cap g h p P k w)
       (need : ℕ) (is : need ≡ g.used + count_at h.front (p % 5) - count_at g.front (p % 5)) where
@@ -126,7 +128,7 @@ module _ {V : Type 0} (class : V → Class) (cap : ℕ) (g h : Grid V) (p : ℕ)
     needed =
         let m = counted (so_far L) g before R.before R.once in
         let n = counted w h after S.stands S.once in
-        let top = after.3 (p % 5) in
+        let top = after.held (p % 5) in
         let long = S.long in
         (omega arith, omega arith, omega arith)
 

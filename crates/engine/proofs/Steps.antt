@@ -84,7 +84,7 @@ module _ (P : T.Table) (w : World) (q p : ℕ) {V : Type 0} (class : V → Class
         let t = tracks_kept class P k w q g h (q % 5) five S.cap same spared A.1.kept T in
         let R = entered_reach class P k w q h (q % 5) i d n (let z = spared.0 in omega arith) ed' en' t in
         let x : d ≡ get_or row i (first_configuration []) = ed' ∙ (ap (λ (z : ℕ). get_or (row_at class z (grid_of h) (q % 5)) i (first_configuration [])) S.cap ∙ ap (λ z. get_or z i (first_configuration [])) same) in
-        let m = length_row_at class g.cap (q % 5) (grid_of g) five g.room in
+        let m = length_row_at class g.cap (q % 5) (grid_of g) five in
         let f : brought_from (i + 1) ≡ brought_from i ++ F d = each_more F row i (first_configuration []) (omega arith) ∙ ap (λ z. brought_from i ++ F z) (sym x) in
         subst (λ z. Brings class (p % 5) P k w p g j z r) (sym f) (brings_on class (p % 5) P k w p g h j S.cap (brought_from i) (F d) r A (step R))
 
@@ -92,7 +92,7 @@ module _ (P : T.Table) (w : World) (q p : ℕ) {V : Type 0} (class : V → Class
     pub row_end : (j : G.Grid V) (i : ℕ) → count_at g.front (q % 5) ≤ i → Brings class (p % 5) P k w p g j (brought_from i) (Ok tt) → Brings class (p % 5) P k w p g j (each (λ c. landed p (moves P w q c)) (row_at class g.cap (grid_of g) (q % 5))) (Ok tt)
     row_end j i l A =
         let five : q % 5 < 5 = omega arith in
-        let m = length_row_at class g.cap (q % 5) (grid_of g) five g.room in
+        let m = length_row_at class g.cap (q % 5) (grid_of g) five in
         subst (λ z. Brings class (p % 5) P k w p g j (each (λ c. landed p (moves P w q c)) z) (Ok tt)) (take_all i (row_at class g.cap (grid_of g) (q % 5)) (omega arith)) A
 
     -- an error among what the first bring is one among all

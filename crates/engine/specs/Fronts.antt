@@ -1,5 +1,5 @@
 -- Rows of configurations as the code holds them.
-use Rattle.std.specs.Prelude.{◌≡◌, ℕ, ◌+◌, ◌*◌, ◌<◌, ◌≤◌, ◌⊎◌, true, false, List, [], ◌∷◌, ◌++◌, map, length, take, drop, Ok, Err, Result, ◌≢◌, slice_index}
+use Rattle.std.specs.Prelude.{◌≡◌, ℕ, ◌+◌, ◌*◌, ◌<◌, ◌⊎◌, true, false, List, [], ◌∷◌, ◌++◌, map, length, take, drop, Ok, Err, Result, ◌≢◌, slice_index}
 use Rattle.std.proofs.Math.Seq.{paste}
 use Rattle.topl.specs.Lists.{Class, holds}
 use Rattle.topl.specs.Runs.{Configuration, alikeᶜ}
@@ -21,7 +21,7 @@ entries_at F k = take (count_at F k) (drop (64 * k) F.entries)
 
 -- no position has a configuration
 abbrev pub Bare : Front → Type 0
-Bare F = (length F.states ≡ 320) × (length F.entries ≡ 320) × ((k : ℕ) → count_at F k ≡ 0)
+Bare F = (k : ℕ) → count_at F k ≡ 0
 
 -- G is F with none at a position
 pub record Cleared (F G : Front) (slot : ℕ) : Type 0 where
@@ -32,8 +32,6 @@ pub record Cleared (F G : Front) (slot : ℕ) : Type 0 where
 
 -- G is F with one configuration more at a position
 pub record Added (F G : Front) (slot state entry : ℕ) : Type 0 where
-  pub long : length G.states ≡ length F.states
-  pub long_entries : length G.entries ≡ length F.entries
   pub count_here : count_at G slot ≡ count_at F slot + 1
   pub count_other : (k : ℕ) → (k ≢ slot) → count_at G k ≡ count_at F k
   pub states_here : states_at G slot ≡ states_at F slot ++ state ∷ []
@@ -76,12 +74,6 @@ module _ {V : Type 0} (class : V → Class) where
 -- all of these are below a number
 abbrev pub Below : ℕ → List ℕ → Type 0
 Below used ns = (i : ℕ) → i < length ns → slice_index ns i < used
-
--- at most 64 are allowed for, the board has a place for each, no position has more, and the entries of all of them count
-abbrev pub Room : {V : Type 0} → ℕ → Grid V → Type 0
-Room cap g =
-    (cap ≤ 64) × (40 * cap ≤ length g.rows) × (length g.front.states ≡ 320) × ((k : ℕ) → count_at g.front k ≤ cap) × (length g.front.entries ≡ 320)
-    × ((k : ℕ) → Below g.used (entries_at g.front k))
 
 -- the other positions have the same configurations
 abbrev pub Others : {V : Type 0} → (V → Class) → ℕ → ℕ → Grid V → Grid V → Type 0

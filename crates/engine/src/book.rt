@@ -67,7 +67,7 @@ impl Book {
         let mut count = 0;
         while at != 0 {
             count += 1;
-            at = self.entries[at as usize].parent;
+            at = self.entries[usize::from(at)].parent;
         }
         count
     }
@@ -77,12 +77,12 @@ impl Book {
         requires { (0 < entry → entry < self.now.used) × (length (steps_to self.now.entries.items entry) ≤ length page.old) }
         ensures { page.new ≡ steps_to self.now.entries.items entry ++ drop (length (steps_to self.now.entries.items entry)) page.old }
     {
-        // Kept a counted walk: each entry leads to the next as in `depth`, where `successors` leaves two goals open.
+        // Kept a counted walk: once a page was written through `iter_mut`, the checker knows its length and not its elements, so its steps could not be promised.
         let mut at = entry;
         let mut left = self.depth(entry);
         while at != 0 {
             left -= 1;
-            let line = self.entries[at as usize];
+            let line = self.entries[usize::from(at)];
             page[left] = line.step;
             at = line.parent;
         }

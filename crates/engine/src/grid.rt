@@ -1,5 +1,6 @@
 // The configurations at five positions, and the book of the steps that reached them.
-ghost use Rattle.engine.specs.Fronts.{grid, Room};
+ghost use Rattle.std.specs.Prelude.{ℕ, ◌*◌, ◌≤◌, vec_len};
+ghost use Rattle.engine.specs.Fronts.{count_at, entries_at, Below};
 
 use crate::book::Book;
 use crate::front::Front;
@@ -12,5 +13,8 @@ pub struct Grid<V> {
     pub(crate) board: Vec<V>,
     pub(crate) book: Book,
     pub(crate) cap: usize,
-    ghost room: { Room cap (grid front board.items book.entries.items book.used) },
+    ghost few: { cap ≤ 64 },
+    ghost wide: { 40 * cap ≤ vec_len board },
+    ghost held: { (k : ℕ) → count_at front k ≤ cap },
+    ghost known: { (k : ℕ) → Below book.used (entries_at front k) },
 }

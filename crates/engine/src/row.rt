@@ -16,7 +16,7 @@ pub(crate) fn find<K: Kind>(states: &[u8], values: &[K::Value], c: &Configuratio
     requires { 8 * length states.now ≤ length values.now }
     ensures { result ≡ holds alikeᶜ (row K.Kind.class states.now values.now) (stands_for K.Kind.class c.now) }
 {
-    // Kept a nested search over stored configurations and registers, left by a label: a fixed form of the project.
+    // Kept a nested search left by a label: a fixed form of the project, since the first register that differs ends the look at its configuration alone.
     'configurations: for (i, s) in states.iter().enumerate() {
         if *s != c.state {
             continue 'configurations;
@@ -61,6 +61,7 @@ pub(crate) fn write_at<V: Copy>(part: &mut [V], from: usize, values: &[V])
 }
 
 // Writes the registers of configuration i of a position.
+// Kept the position's part of the board lent on to be written: a fixed form of the project, so that no other position's registers are in reach of the write.
 pub(crate) fn put_configuration<V: Copy>(
     grid: &mut Grid<V>,
     slot: Slot,
@@ -68,10 +69,9 @@ pub(crate) fn put_configuration<V: Copy>(
     registers: &[V; 8],
 )
     requires { i < grid.old.cap }
-    ensures board { grid.new.board.items ≡ stored grid.old.board.items (slot.at * (8 * grid.old.cap) + 8 * i) registers.now }
-    ensures front { grid.new.front ≡ grid.old.front }
-    ensures book { grid.new.book ≡ grid.old.book }
-    ensures cap { grid.new.cap ≡ grid.old.cap }
+    ensures written { grid.new.board.items ≡ stored grid.old.board.items (slot.at * (8 * grid.old.cap) + 8 * i) registers.now }
+    ensures board { vec_len grid.new.board ≡ vec_len grid.old.board }
+    ensures others { (grid.new.front ≡ grid.old.front) × (grid.new.book ≡ grid.old.book) × (grid.new.cap ≡ grid.old.cap) }
 {
     let from = start(grid.cap, slot);
     let to = from + 8 * grid.cap;
@@ -126,12 +126,11 @@ pub(crate) fn arrive<K: Kind>(
     ensures cap { grid.new.cap ≡ grid.old.cap }
     ensures board { vec_len grid.new.board ≡ vec_len grid.old.board }
 {
-    let cap = grid.cap;
-    let count = grid.front.counts[slot.at];
+    let count = grid.front.count_at(slot);
     if find::<K>(grid.front.states_of(slot), part_of(grid, slot), c) {
         return Ok(());
     }
-    if count >= cap {
+    if count >= grid.cap {
         return Err(Crowded);
     }
     put_configuration(grid, slot, count, &c.registers);

@@ -16,7 +16,7 @@ returns-then-grid-clause-fills g c P k L w W R =
     let position = c.args.position.now in
     let h = c.in_default.ensures.brings P k w W (λ q l m. R.tracked q l (omega arith)) in (
       came_errors g.K.Kind.class s.cap (grid_of s) (grid_of c.step_rows.new.grid) position.scene.now.base position.number P k L w R ∙ h.0,
-      came_spills g.K.Kind.class s.cap (grid_of s) (grid_of c.step_rows.new.grid) position.scene.now.base position.number P k L w R h.1 c.if-grid.true,
+      came_spills g.K.Kind.class s.cap (grid_of s) (grid_of c.step_rows.new.grid) position.scene.now.base position.number P k L w R _ _ _ h.1 c.if-grid.true,
     )
 
 pub returns-clause-fills : goal.returns-clause-fills
@@ -24,4 +24,4 @@ returns-clause-fills g c P k L w W R =
     let s = c.args.grid.now in
     let position = c.args.position.now in
     let h = c.in_default.ensures.brings P k w W (λ q l m. R.tracked q l (omega arith)) in
-    came_stands g.K.Kind.class s.cap (grid_of s) (grid_of c.step_rows.new.grid) position.scene.now.base position.number P k L w R position.from h.0 h.1 c.if-grid.false
+    came_stands g.K.Kind.class s.cap (grid_of s) (grid_of c.step_rows.new.grid) position.scene.now.base position.number P k L w R _ _ _ position.from h.0 h.1 c.if-grid.false

@@ -4,6 +4,7 @@ use Rattle.engine.specs.Trails.{room_of}
 use Rattle.engine.specs.Fronts.{count_at}
 use Rattle.engine.specs.Grids.{grid_of}
 use Rattle.engine.specs.Judging.{Judged}
+use Rattle.engine.proofs.Fronts.{room_for}
 use Rattle.engine.proofs.Fills.{room_by}
 use Rattle.engine.proofs.Judging.{judged_err, judged_full, judged_goes}
 use Rattle.engine.proofs.judge.judge_position.Goals as goal
@@ -23,7 +24,7 @@ returns-then-room-need-clause-rules g c P k L w W R B =
     let t = c.fill_position.new.grid in
     let position = c.args.position.now in
     let need = subst (λ (z : ℕ). c.saturating_sub-need.result ≡ s.book.used + count_at t.front z - count_at s.front z) c.of-slot.ensures c.saturating_sub-need.ensures in
-    judged_full g.K.Kind.class s.cap (grid_of s) (grid_of t) position.number P k L w position.scene.now.base R s.room (room_by s.cap t c.in_ok-fill_position.ensures.safe.cap) B
+    judged_full g.K.Kind.class s.cap (grid_of s) (grid_of t) position.number P k L w position.scene.now.base R (room_for s) (room_by s.cap t c.in_ok-fill_position.ensures.safe.cap) B
     (c.in_ok-fill_position.ensures.fills P k L w W R) c.saturating_sub-need.result need (subst (λ (z : ℕ). z < c.saturating_sub-need.result) c.room.ensures c.if-room-need.true)
 
 pub returns-clause-rules : goal.returns-clause-rules
@@ -32,5 +33,5 @@ returns-clause-rules g c P k L w W R B =
     let t = c.fill_position.new.grid in
     let position = c.args.position.now in
     let need = subst (λ (z : ℕ). c.saturating_sub-need.result ≡ s.book.used + count_at t.front z - count_at s.front z) c.of-slot.ensures c.saturating_sub-need.ensures in
-    judged_goes g.K.Kind.class s.cap (grid_of s) (grid_of t) position.number P k L w position.scene.now.base R s.room (room_by s.cap t c.in_ok-fill_position.ensures.safe.cap) B
+    judged_goes g.K.Kind.class s.cap (grid_of s) (grid_of t) position.number P k L w position.scene.now.base R (room_for s) (room_by s.cap t c.in_ok-fill_position.ensures.safe.cap) B
     (c.in_ok-fill_position.ensures.fills P k L w W R) c.saturating_sub-need.result need (subst (λ (z : ℕ). c.saturating_sub-need.result ≤ z) c.room.ensures c.if-room-need.false)

@@ -1,36 +1,28 @@
-use Rattle.std.proofs.Common.{◌≡◌, ℕ, ◌*◌, ◌%◌, ◌≤◌, map, replicate, [], length, vec_items, sym, ap, ◌∙◌, subst, arith}
-use Rattle.topl.specs.Runs.{so_far}
+use Rattle.std.proofs.Common.{◌≡◌, map, replicate, [], sym, ap, ◌∙◌, arith}
 use Rattle.topl.specs.Ledger.{sets, initial}
-use Rattle.engine.specs.declared.book.Book.{Book}
-use Rattle.engine.specs.declared.front.Front.{Front}
-use Rattle.engine.specs.Trails.{room_of}
-use Rattle.engine.specs.Fronts.{Added, grid}
-use Rattle.engine.specs.Fills.{Tracked}
-use Rattle.engine.specs.Judging.{Held}
-use Rattle.engine.proofs.Opens.{opened_follows}
+use Rattle.engine.proofs.Opens.{bare_below, opened_room, opened_follows}
 use Rattle.engine.proofs.open.open_rows.Goals as goal
+
+pub invariant_of-grid : goal.invariant_of-grid
+invariant_of-grid g c = record {
+  few = c.requires.2;
+  wide = c.requires.3;
+  held = λ k. let z = c.new-grid.ensures k in omega arith;
+  known = bare_below c.new-grid.result c.new-grid.ensures c.args.s.now.grid.book.used;
+}
+
+pub invariant_of-grid-2 : goal.invariant_of-grid-2
+invariant_of-grid-2 g c =
+    let t = c.put_configuration.new.grid in
+    let R = opened_room g.K.Kind.class c.args.s.now.grid t c.args.cap c.new-grid.result c.add.new.self c.of-slot.result.at c.start_registers-registers.result c.begin.new.self c.of-slot.ensures c.new-grid.ensures
+    c.put_configuration.ensures.written c.put_configuration.ensures.others c.add.ensures c.begin.ensures.used c.requires.1 c.requires.3 c.requires.4 c.start_registers-registers.ensures.eight in
+    record { few = t.few; wide = t.wide; held = R.held; known = R.known }
 
 pub returns-clause-follows : goal.returns-clause-follows
 returns-clause-follows g c P e =
     let class = g.K.Kind.class in
-    let s = c.args.s.now.grid in
-    let cap = c.args.cap in
-    let put = c.put_configuration in
-    let H = c.add.new.self in
-    let b = c.begin.new.self in
-    let room = ap (λ (z : Book). room_of (vec_items z.entries)) put.ensures.book in
-    let one : b.used ≡ 1 = omega (arith, c.begin.ensures.used, c.requires.4) in
-    let board = s.board.ok.0 in
-    let long : 40 * cap ≤ length (vec_items s.board) = omega (arith, c.requires.3) in
-    let A = subst (λ (z : Front). Added z H c.of-slot.result.at 0 0) put.ensures.front c.add.ensures in
     let k = initial P (map class c.args.values.now) in
     let is : map class c.start_registers-registers.result ≡ k = c.start_registers-registers.ensures.are ∙ ap (λ z. sets (replicate 8 []) z (map class c.args.values.now)) (sym e) in
-    let G = grid H (vec_items put.new.grid.board) (vec_items b.entries) b.used in
-    let h = opened_follows class cap c.new-grid.result H c.of-slot.result.at (vec_items s.board) (vec_items put.new.grid.board) c.start_registers-registers.result (vec_items b.entries) b.used c.of-slot.ensures c.new-grid.ensures A
-    put.ensures.board c.requires.1 c.requires.2 long c.start_registers-registers.ensures.eight one P k is in
-    record {
-      held = λ q l m. subst (λ (z : ℕ). Held class z G P k (so_far []) q) (sym put.ensures.cap) (h.0 q m);
-      tracked = λ q l m. subst (λ (z : ℕ). Tracked class z P k (so_far []) q G (q % 5)) (sym put.ensures.cap) (h.1 q m);
-      total = h.2;
-      window = tt;
-    }
+    let h = opened_follows class c.args.s.now.grid c.put_configuration.new.grid c.args.cap c.new-grid.result c.add.new.self c.of-slot.result.at c.start_registers-registers.result c.begin.new.self c.of-slot.ensures c.new-grid.ensures
+    c.put_configuration.ensures.written c.put_configuration.ensures.others c.add.ensures c.begin.ensures.used c.requires.1 c.requires.3 c.requires.4 c.start_registers-registers.ensures.eight P k is in
+    record { held = λ q l. h.0 q; tracked = λ q l. h.1 q; total = h.2; window = tt }

@@ -9,6 +9,7 @@ use Rattle.engine.specs.Grids.{grid_of}
 use Rattle.engine.specs.Judging.{Start, Decided}
 use Rattle.engine.specs.Windows.{Remembers}
 use Rattle.engine.proofs.Properties.{lawful}
+use Rattle.engine.proofs.Fronts.{cleared_room}
 use Rattle.engine.proofs.Starts.{cleared, start_feed}
 use Rattle.engine.proofs.Following.{remembers_more, seen_count, follows_on}
 use Rattle.engine.proofs.rows.Rows.take_event.Goals as goal
@@ -50,3 +51,8 @@ returns-clause-rules g c k L S j F =
       record { rules = D₂.decides; shown = D₂.shown },
       follows_on class s t H P k L ev c.settle.result D₂ X.stays.cap (subst (λ z. Remembers class z (drop (n - 3) (L ++ ev ∷ []))) (sym X.window) R),
     )
+
+pub invariant_of-state : goal.invariant_of-state
+invariant_of-state g c =
+    let s = c.args.self.now.state.grid in
+    let R = cleared_room s c.clear.new.self c.of.result.at c.clear.ensures in record { few = s.few; wide = s.wide; held = R.held; known = R.known }
