@@ -112,12 +112,16 @@ pub(crate) fn decimal(digits: &[u8]) -> Option<u16>
     digits.iter().try_fold(0, |v, b| appended(v, *b))
 }
 
+// What stands for a number that is too large, and for an arity.
+// Kept a number: the text has a fault there, and an Option would have to go on into the spot and the method.
+pub(crate) const LARGE_NUMBER: u32 = 65536;
+pub(crate) const LARGE_ARITY: usize = 65536;
+
 // The number that digits write, where all over 65,535 stand as one.
-// Kept 65,536 for what is too large: the text has a fault there, and an Option would have to go on into the spot and the method.
 pub(crate) fn capped(digits: &[u8]) -> u32
     ensures { result ≡ most digits.now }
 {
-    decimal(digits).map_or(65536, u32::from)
+    decimal(digits).map_or(LARGE_NUMBER, u32::from)
 }
 
 // Whether a colon comes after the spaces at a place.

@@ -19,13 +19,13 @@ returns-then-is_ascii_alphabetic c =
     subst (λ (b : Bool). Lexed b t f q) (sym (sym c.tight.ensures ∙ c.if-tight.false))
     (lexed_word t f q (passed_in wordy t f q (let w = c.requires.within in omega arith) c.skip.ensures) c.requires.within (sym c.is_ascii_alphabetic.ensures.value ∙ c.if-is_ascii_alphabetic.true))
 
-pub returns-then-not-has : goal.returns-then-not-has
-returns-then-not-has c =
+pub returns-then-not-is_ascii_digit : goal.returns-then-not-is_ascii_digit
+returns-then-not-is_ascii_digit c =
     let t = c.args.self.now.text.now in
     let f = c.args.from in
     subst (λ (b : Bool). Lexed b t f (f + 1)) (sym (sym c.tight.ensures ∙ c.if-tight.false))
     (lexed_mark t f c.requires.within (c.requires.plain (sym c.tight.ensures ∙ c.if-tight.false))
-    (wordless (get_or t f 0) (sym c.is_ascii_alphabetic.ensures.value ∙ c.if-is_ascii_alphabetic.false) (sym c.has.ensures ∙ c.if-not-has.true)))
+    (wordless (get_or t f 0) (sym c.is_ascii_alphabetic.ensures.value ∙ c.if-is_ascii_alphabetic.false) (sym c.is_ascii_digit.ensures.value ∙ c.if-not-is_ascii_digit.true)))
 
 pub returns : goal.returns
 returns c =
@@ -33,7 +33,7 @@ returns c =
     let f = c.args.from in
     let q = c.skip-end.result in
     let x = passed_in digit t f q (let w = c.requires.within in omega arith) c.skip-end.ensures in
-    let d = sym c.has.ensures ∙ c.if-not-has.false in
+    let d = sym c.is_ascii_digit.ensures.value ∙ c.if-not-is_ascii_digit.false in
     subst (λ (b : Bool). Lexed b t f q) (sym (sym c.tight.ensures ∙ c.if-tight.false))
     (lexed_number t f q x c.requires.within d
     (not_padded (get_or t f 0) f q (longer _ t f q x c.requires.within d) (sym c.padded.ensures ∙ c.if-padded.false)))
