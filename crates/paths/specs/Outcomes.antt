@@ -12,7 +12,7 @@ use Rattle.property.specs.declared.text.Failure.TheVariants.{At, Memory}
 
 -- The answer is the least place at which a draft reads a variable unwritten, or that there is none.
 abbrev pub FirstIn : Draft → Option ℕ → Type 0
-FirstIn d o = FirstOf (vec_items d.statements) (vec_items d.registers) (length (vec_items d.registers)) o
+FirstIn d o = FirstOf (vec_items d.statements) (vec_items d.registers) o
 
 -- The text writes what the draft holds, and no variable is read unwritten.
 abbrev pub Written : List ℕ → Draft → Type 0

@@ -190,7 +190,7 @@ fn variable_read(statements: &[Statement], x: usize, register: &Register) -> Opt
 
 // The least place at which a variable is read that some path of statements has not written by then.
 pub(crate) fn unwritten_read(statements: &[Statement], registers: &[Register]) -> Option<usize>
-    ensures { FirstOf statements.now registers.now (length registers.now) result }
+    ensures { FirstOf statements.now registers.now result }
 {
     registers
         .iter()
