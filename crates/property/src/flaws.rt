@@ -105,7 +105,10 @@ impl Reading<'_> {
         ensures { told result ≡ worst (line_flaws Line.MethodNumber (seen self.now) w.now) }
     {
         match decimal(w) {
-            Some(n) => self.draft.numbered(u32::from(n)).then_some(TextReason::BadMethod),
+            Some(n) => self
+                .draft
+                .numbered(u32::from(n))
+                .then_some(TextReason::BadMethod),
             None => Some(TextReason::TooMuch),
         }
     }

@@ -115,6 +115,7 @@ pub(crate) fn decimal(digits: &[u8]) -> Option<u16>
 // What stands for a number that is too large, and for an arity.
 // Kept a number: the text has a fault there, and an Option would have to go on into the spot and the method.
 pub(crate) const LARGE_NUMBER: u32 = 65536;
+
 pub(crate) const LARGE_ARITY: usize = 65536;
 
 // The number that digits write, where all over 65,535 stand as one.
