@@ -39,6 +39,8 @@ impl Draft {
 }
 
 // A draft with the text that it reads, for the searches and the faults.
+// Kept written out wherever one is made: what a function returns a proof knows by equations alone, which do not reach into the tests of the searches, and the
+// goal `returns` of `Draft::visit` stays open.
 #[derive(Clone, Copy)]
 pub(crate) struct Reading<'a> {
     pub(crate) text: &'a [u8],

@@ -1,4 +1,6 @@
 // The faults of a piece where it stands.
+// Kept an Option of the fault, in place of a Result: a fault is what each function here seeks, as the grammar's `worst` does, so None is no success with a
+// value, and `or` goes on to the next fault.
 ghost use Rattle.std.specs.Prelude.{◌≡◌, ℕ, true, false, nat_le, List, [], if◌then◌else◌, Some, None};
 ghost use Rattle.property.specs.Grammar.{name_flaws, room_flaws, arity_flaws, full, source_flaws, line_flaws, route_flaws, pattern_flaws, closing_flaws, label_flaws, inner_flaws, flaws, wants_word, worst, written_twice, variable_flaws, begun_flaws, fresh_flaws};
 ghost use Rattle.kinds.specs.Refusals.{text_number};

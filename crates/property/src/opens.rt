@@ -14,10 +14,10 @@ impl Head {
         ensures { result ≡ head_opens self b }
     {
         match (self, classify(char::from(b))) {
-            (Head::Margin | Head::Gap, Mark::Space) | (Head::Title, Mark::Capital | Mark::Small) =>
-                true,
+            (Head::Margin | Head::Gap, Mark::Space) => true,
             (Head::Margin, _) => b == b'p',
             (Head::Keyword(read), _) => b == KEYWORD[read.min(7)],
+            (Head::Title, Mark::Capital | Mark::Small) => true,
             _ => false,
         }
     }

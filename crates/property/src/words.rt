@@ -23,9 +23,7 @@ pub(crate) fn spelled<'a>(text: &'a [u8], name: Name) -> &'a [u8]
 pub(crate) fn reserved(w: &[u8]) -> bool
     ensures { result ≡ word.reserved w.now }
 {
-    [b"property".as_slice(), b"method", b"call", b"ret"]
-        .iter()
-        .any(|r| w == *r)
+    [b"property".as_slice(), b"method", b"call", b"ret"].contains(&w)
 }
 
 // Whether a word is the state that each property starts in.
