@@ -1,5 +1,5 @@
 -- How many flags are not set.
-use Rattle.std.proofs.Common.{ℕ, zero, suc, Bool, true, false, List, [], ◌∷◌}
+use Rattle.std.proofs.Common.{ℕ, suc, Bool, true, false, List, [], ◌∷◌}
 
 abbrev pub unset : List Bool → ℕ
 unset [] = 0

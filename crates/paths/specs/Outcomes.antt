@@ -1,5 +1,5 @@
 -- What a property text with an unwritten read is refused with, and one without.
-use Rattle.std.specs.Prelude.{◌≡◌, ℕ, ◌⊎◌, List, length, Some, None, vec_items, Option}
+use Rattle.std.specs.Prelude.{◌≡◌, ℕ, ◌⊎◌, List, Some, None, vec_items, Option}
 use Rattle.forms.specs.Forms.{Accepted, Refused}
 use Rattle.kinds.specs.Refusals.{text_number}
 use Rattle.kinds.specs.declared.text_reason.TextReason.TheVariants as reasons

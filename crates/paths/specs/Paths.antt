@@ -1,5 +1,5 @@
 -- Paths of statements on which a register is not written, and the reads of a statement.
-use Rattle.std.specs.Prelude.{◌≡◌, ℕ, ◌<◌, Bool, true, false, cond, List, [], ◌∷◌, length, get_or, take, min, ◌==◌, slice_index_or}
+use Rattle.std.specs.Prelude.{◌≡◌, ℕ, ◌<◌, Bool, false, cond, List, [], ◌∷◌, length, get_or, take, min, ◌==◌, slice_index_or}
 use Rattle.std.specs.List.{list_any}
 use Rattle.property.specs.declared.table.Event.{Event}
 use Rattle.property.specs.declared.table.Event.TheVariants as events

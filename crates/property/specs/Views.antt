@@ -1,5 +1,5 @@
 -- What the parts of a draft stand for, as names in the text that it reads.
-use Rattle.std.specs.Prelude.{ℕ, ◌-◌, Bool, true, false, cond, ◌&&◌, List, [], map, length, take, drop, Some, None, vec_items, Option, nat_le}
+use Rattle.std.specs.Prelude.{ℕ, ◌-◌, Bool, true, false, cond, ◌&&◌, List, [], map, length, take, drop, vec_items, Option, nat_le}
 use Rattle.std.specs.Option.{option_map}
 use Rattle.kinds.specs.Refusals.{text_number}
 use Rattle.property.specs.Grammar.{worst}

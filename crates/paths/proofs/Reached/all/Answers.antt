@@ -4,7 +4,6 @@ use Rattle.paths.specs.Paths.{Unwritten, start, along, state}
 use Rattle.paths.specs.Search.{Complete}
 use Rattle.paths.proofs.Unset.{unset}
 use Rattle.paths.specs.declared.Reached.{Reached}
-use Rattle.property.specs.declared.table.Statement.{Statement}
 use Rattle.paths.proofs.Reached.all.Goals as goal
 
 -- Setting a flag that was not set.

@@ -1,4 +1,4 @@
-use Rattle.std.proofs.Common.{◌≡◌, ℕ, List, length, Some, None, Option, refl, sym, subst, inr}
+use Rattle.std.proofs.Common.{◌≡◌, ℕ, List, Some, None, Option, refl, sym, subst, inr}
 use Rattle.paths.specs.Outcomes.{Refuses}
 use Rattle.paths.specs.Reads.{FirstOf}
 use Rattle.property.specs.declared.table.Register.{Register}

@@ -1,4 +1,4 @@
-use Rattle.std.proofs.Common.{◌≡◌, ℕ, ◌+◌, Bool, List, get_or, sym, ◌∙◌, subst, arith}
+use Rattle.std.proofs.Common.{◌≡◌, ℕ, Bool, List, get_or, sym, ◌∙◌, subst, arith}
 use Rattle.forms.specs.Bytes.{digit, wordy}
 use Rattle.property.specs.Reads.{Lexed}
 use Rattle.property.proofs.Readings.{lexed_byte, lexed_word, lexed_number, lexed_mark, not_padded, wordless, longer}
