@@ -110,10 +110,12 @@ pub(crate) fn decimal(digits: &[u8]) -> Option<u16>
     digits.iter().try_fold(0, |v, b| appended(v, *b))
 }
 
-// What stands for a number that is too large, and for an arity.
+// What stands for a method's number that is too large.
 // Kept a number: the text has a fault there, and an Option would have to go on into the spot and the method.
-pub(crate) const LARGE_NUMBER: u32 = 65536;
+const LARGE_NUMBER: u32 = 65536;
 
+// What stands for a method's arity that is too large.
+// Kept a number: the text has a fault there, and an Option would have to go on into the method.
 pub(crate) const LARGE_ARITY: usize = 65536;
 
 // The number that digits write, where all over 65,535 stand as one.
