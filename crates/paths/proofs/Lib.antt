@@ -1,3 +1,4 @@
 pub mod Chains
 pub mod Minima
 pub mod Registers
+pub mod Unset

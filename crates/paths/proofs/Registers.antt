@@ -1,5 +1,5 @@
 -- Over registers: one more, which holds a constant or a variable.
-use Rattle.std.proofs.Common.{◌≡◌, ℕ, ◌+◌, ◌<◌, true, false, ◌⊎◌, List, [], ◌∷◌, length, get_or, drop, min, Some, None, Option, refl, sym, ap, ◌∙◌, subst, inl, inr, arith}
+use Rattle.std.proofs.Common.{◌≡◌, ℕ, ◌+◌, ◌<◌, ◌≤◌, true, false, ◌⊎◌, List, [], ◌∷◌, length, get_or, drop, min, Some, None, Option, refl, sym, ap, ◌∙◌, subst, inl, inr, arith}
 use Rattle.std.proofs.lemmas.List.{get_or_default, drop_more}
 use Rattle.std.specs.List.{enumerate_from}
 use Rattle.std.proofs.lemmas.Bool.{cases_lt, true≢false}
@@ -11,6 +11,17 @@ use Rattle.property.specs.declared.table.Register.{Register}
 use Rattle.property.specs.declared.table.Register.TheVariants as registers
 use Rattle.property.specs.declared.table.Statement.{Statement}
 
+-- Of the first i registers, the answer is the least place at which a variable is read unwritten, or that there is none.
+abbrev pub Below : List Statement → List Register → ℕ → Option ℕ → Type 0
+Below ss gs i None = (x n : ℕ) → x < i → Variable gs x → OpenRead ss x n → ⊥
+Below ss gs i (Some n) =
+    ((x : ℕ) × (x < i) × Variable gs x × OpenRead ss x n) × ((x m : ℕ) → x < i → Variable gs x → OpenRead ss x m → n ≤ m)
+
+-- Below their count, it is the answer for all.
+pub all_below : (ss : List Statement) (gs : List Register) (o : Option ℕ) → Below ss gs (length gs) o → FirstOf ss gs o
+all_below ss gs None f = λ x n v r. f x n v.0 v r
+all_below ss gs (Some n) (a, f) = ((a.0, a.2, a.3), λ x m v r. f x m v.0 v r)
+
 module _ (ss : List Statement) (gs : List Register) (i : ℕ) where
   -- A register below i + 1 is below i, or i.
   below : (x : ℕ) → x < i + 1 → (x < i) ⊎ (x ≡ i)
@@ -19,10 +30,10 @@ module _ (ss : List Statement) (gs : List Register) (i : ℕ) where
   step : (x : ℕ) → x < i → x < i + 1
   step x h = omega arith
 
-  pub first_none : FirstOf ss gs 0 None
+  pub first_none : Below ss gs 0 None
   first_none x n h v r = absurd (omega arith)
 
-  pub constant_more : (o : Option ℕ) (d : Register) → i < length gs → is_constant (get_or gs i d) ≡ true → FirstOf ss gs i o → FirstOf ss gs (i + 1) o
+  pub constant_more : (o : Option ℕ) (d : Register) → i < length gs → is_constant (get_or gs i d) ≡ true → Below ss gs i o → Below ss gs (i + 1) o
   constant_more None d h e f = λ x n l v r. elim (below x l) [
     | inl k ↦ f x n k v r
     | inr k ↦ true≢false (sym e ∙ subst (λ (y : ℕ). is_constant (get_or gs y d) ≡ false) k (v.1 d))
@@ -44,7 +55,7 @@ module _ (ss : List Statement) (gs : List Register) (i : ℕ) where
   moved : (x n : ℕ) → x ≡ i → OpenRead ss x n → OpenRead ss i n
   moved x n e r = subst (λ (y : ℕ). OpenRead ss y n) e r
 
-  pub variable_more : (o p : Option ℕ) → Variable gs i → FirstOf ss gs i o → FirstOpen ss i p → FirstOf ss gs (i + 1) (lesser o p)
+  pub variable_more : (o p : Option ℕ) → Variable gs i → Below ss gs i o → FirstOpen ss i p → Below ss gs (i + 1) (lesser o p)
   variable_more None None v f g = λ x n l w r. elim (below x l) [ inl k ↦ f x n k w r | inr k ↦ g n (moved x n k r) ]
   variable_more None (Some m) v f g = (
     (i, here, v, g.0),
@@ -75,28 +86,28 @@ module _ (ss : List Statement) (gs : List Register) where
   lesser_none (Some n) = refl
 
   -- One register more, which gives o.
-  one_more : (n : ℕ) (h : Register) (best o : Option ℕ) → n < length gs → get_or gs n h ≡ h → FirstHere ss n h o → FirstOf ss gs n best → FirstOf ss gs (n + 1) (lesser best o)
+  one_more : (n : ℕ) (h : Register) (best o : Option ℕ) → n < length gs → get_or gs n h ≡ h → FirstHere ss n h o → Below ss gs n best → Below ss gs (n + 1) (lesser best o)
   one_more n (registers.Constant w) best o l e r f =
-      subst (λ (p : Option ℕ). FirstOf ss gs (n + 1) (lesser best p)) (sym r)
-      (subst (FirstOf ss gs (n + 1)) (sym (lesser_none best)) (constant_more ss gs n best (registers.Constant w) l (ap is_constant e) f))
+      subst (λ (p : Option ℕ). Below ss gs (n + 1) (lesser best p)) (sym r)
+      (subst (Below ss gs (n + 1)) (sym (lesser_none best)) (constant_more ss gs n best (registers.Constant w) l (ap is_constant e) f))
   one_more n (registers.Variable w) best o l e r f = variable_more ss gs n best o (held ss gs n (registers.Variable w) l (ap is_constant e)) f r
 
   -- The first of the registers from n on.
   at_head : (n : ℕ) (h : Register) (hs : List Register) → n < length gs → drop n gs ≡ h ∷ hs → (get_or gs n h ≡ h) × (drop (n + 1) gs ≡ hs)
   at_head n h hs l e = let k : get_or gs n h ∷ drop (n + 1) gs ≡ h ∷ hs = sym (drop_more gs n h l) ∙ e in (cc, cc)
 
-  pub over : (n : ℕ) (hs : List Register) (zs : List ℕ) (best : Option ℕ) → n + length hs ≡ length gs → drop n gs ≡ hs → Gives Here (enumerate_from n hs) zs → FirstOf ss gs n best
-      → FirstOf ss gs (length gs) (lesser best (least zs))
+  pub over : (n : ℕ) (hs : List Register) (zs : List ℕ) (best : Option ℕ) → n + length hs ≡ length gs → drop n gs ≡ hs → Gives Here (enumerate_from n hs) zs → Below ss gs n best
+      → Below ss gs (length gs) (lesser best (least zs))
   over n [] _ best e d none f =
-      let k : n ≡ length gs = omega arith in subst (λ (m : ℕ). FirstOf ss gs m (lesser best None)) k (subst (FirstOf ss gs n) (sym (lesser_none best)) f)
+      let k : n ≡ length gs = omega arith in subst (λ (m : ℕ). Below ss gs m (lesser best None)) k (subst (Below ss gs n) (sym (lesser_none best)) f)
   over n (h ∷ hs) zs best e d (skips r g) f =
       let l : n < length gs = omega arith in
       let m : (n + 1) + length hs ≡ length gs = omega arith in
       let y = at_head n h hs l d in
-      over (n + 1) hs zs best m y.1 g (subst (FirstOf ss gs (n + 1)) (lesser_none best) (one_more n h best None l y.0 r f))
+      over (n + 1) hs zs best m y.1 g (subst (Below ss gs (n + 1)) (lesser_none best) (one_more n h best None l y.0 r f))
   over n (h ∷ hs) (z ∷ zs) best e d (takes r g) f =
       let l : n < length gs = omega arith in
       let m : (n + 1) + length hs ≡ length gs = omega arith in
       let y = at_head n h hs l d in
-      subst (FirstOf ss gs (length gs)) (lesser_assoc best (Some z) (least zs) ∙ ap (lesser best) (sym (least_more z zs)))
+      subst (Below ss gs (length gs)) (lesser_assoc best (Some z) (least zs) ∙ ap (lesser best) (sym (least_more z zs)))
       (over (n + 1) hs zs (lesser best (Some z)) m y.1 g (one_more n h best (Some z) l y.0 r f))

@@ -1,5 +1,5 @@
 -- What a property text with an unwritten read is refused with, and one without.
-use Rattle.std.specs.Prelude.{◌≡◌, ℕ, ◌⊎◌, List, length, Some, None, vec_items, Option}
+use Rattle.std.specs.Prelude.{◌≡◌, ℕ, ◌⊎◌, List, Some, None, vec_items, Option}
 use Rattle.forms.specs.Forms.{Accepted, Refused}
 use Rattle.kinds.specs.Refusals.{text_number}
 use Rattle.kinds.specs.declared.text_reason.TextReason.TheVariants as reasons
@@ -12,7 +12,7 @@ use Rattle.property.specs.declared.text.Failure.TheVariants.{At, Memory}
 
 -- The answer is the least place at which a draft reads a variable unwritten, or that there is none.
 abbrev pub FirstIn : Draft → Option ℕ → Type 0
-FirstIn d o = FirstOf (vec_items d.statements) (vec_items d.registers) (length (vec_items d.registers)) o
+FirstIn d o = FirstOf (vec_items d.statements) (vec_items d.registers) o
 
 -- The text writes what the draft holds, and no variable is read unwritten.
 abbrev pub Written : List ℕ → Draft → Type 0

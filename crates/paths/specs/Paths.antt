@@ -1,5 +1,5 @@
 -- Paths of statements on which a register is not written, and the reads of a statement.
-use Rattle.std.specs.Prelude.{◌≡◌, ℕ, suc, ◌<◌, Bool, true, false, cond, List, [], ◌∷◌, length, get_or, take, min, ◌==◌, slice_index_or}
+use Rattle.std.specs.Prelude.{◌≡◌, ℕ, ◌<◌, Bool, false, cond, List, [], ◌∷◌, length, get_or, take, min, ◌==◌, slice_index_or}
 use Rattle.std.specs.List.{list_any}
 use Rattle.property.specs.declared.table.Event.{Event}
 use Rattle.property.specs.declared.table.Event.TheVariants as events
@@ -48,18 +48,3 @@ pub data Unwritten (ss : List Statement) (x : ℕ) : ℕ → Type 0 where
   start : Unwritten ss x 0
   along : (k : ℕ) (d : Statement) → k < length ss → statement_writes x (slice_index_or ss k d) ≡ false → Unwritten ss x (state (get_or ss k d).source)
       → Unwritten ss x (state (get_or ss k d).target)
-
--- Each flag that is set is right.
-abbrev pub Sound : List Statement → ℕ → List Bool → Type 0
-Sound ss x f = (q : ℕ) → slice_index_or f q false ≡ true → Unwritten ss x q
-
--- No statement that does not write x leads out of the set.
-abbrev pub Closed : List Statement → ℕ → List Bool → Type 0
-Closed ss x f = (k : ℕ) (d : Statement) → k < length ss → statement_writes x (slice_index_or ss k d) ≡ false → slice_index_or f (state (get_or ss k d).source) false ≡ true
-    → slice_index_or f (state (get_or ss k d).target) false ≡ true
-
--- How many flags are not set.
-abbrev pub unset : List Bool → ℕ
-unset [] = 0
-unset (true ∷ f) = unset f
-unset (false ∷ f) = suc (unset f)

@@ -60,8 +60,7 @@ FirstHere ss x (registers.Variable n) o = FirstOpen ss x o
 abbrev pub Variable : List Register → ℕ → Type 0
 Variable gs x = (x < length gs) × ((d : Register) → is_constant (get_or gs x d) ≡ false)
 
--- Of the first i registers, the answer is the least place at which a variable is read unwritten, or that there is none.
-abbrev pub FirstOf : List Statement → List Register → ℕ → Option ℕ → Type 0
-FirstOf ss gs i None = (x n : ℕ) → x < i → Variable gs x → OpenRead ss x n → ⊥
-FirstOf ss gs i (Some n) =
-    ((x : ℕ) × (x < i) × Variable gs x × OpenRead ss x n) × ((x m : ℕ) → x < i → Variable gs x → OpenRead ss x m → n ≤ m)
+-- The answer is the least place at which a variable is read unwritten, or that there is none.
+abbrev pub FirstOf : List Statement → List Register → Option ℕ → Type 0
+FirstOf ss gs None = (x n : ℕ) → Variable gs x → OpenRead ss x n → ⊥
+FirstOf ss gs (Some n) = ((x : ℕ) × Variable gs x × OpenRead ss x n) × ((x m : ℕ) → Variable gs x → OpenRead ss x m → n ≤ m)

@@ -1,6 +1,6 @@
 -- What a search for the states that are reached with no write of a register has found.
-use Rattle.std.specs.Prelude.{◌≡◌, ℕ, Bool, false, ◌&&◌, not, List, Decides, slice_index_or}
-use Rattle.paths.specs.Paths.{Unwritten, Sound, Closed, statement_writes, state}
+use Rattle.std.specs.Prelude.{◌≡◌, ℕ, Bool, true, false, ◌&&◌, not, List, All, Decides, slice_index_or}
+use Rattle.paths.specs.Paths.{Unwritten, statement_writes, state}
 use Rattle.paths.specs.declared.Reached.{Reached}
 use Rattle.property.specs.declared.table.Statement.{Statement}
 
@@ -18,11 +18,11 @@ leads r s = not (statement_writes r.register s) && (found r s.source && not (fou
 
 -- All that are found are reached.
 abbrev pub AllReached : Reached → Type 0
-AllReached r = Sound r.statements.now r.register r.seen
+AllReached r = (q : ℕ) → slice_index_or r.seen q false ≡ true → Unwritten r.statements.now r.register q
 
 -- No statement leads further.
 abbrev pub Complete : Reached → Type 0
-Complete r = Closed r.statements.now r.register r.seen
+Complete r = All (λ s. leads r s ≡ false) r.statements.now
 
 -- The state q is not found; it is reached if all that are found are.
 abbrev pub Beyond : Reached → ℕ → Type 0

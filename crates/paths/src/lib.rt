@@ -94,6 +94,7 @@ fn statement_read(statement: &Statement, x: usize) -> Option<usize>
 }
 
 // A search for the states that paths of statements reach with no write of a register, and those that it has found.
+// Kept without an invariant that each found state is reached: a ghost field holds what has at most one proof, and a state is reached by a proof for each path.
 #[derive(Clone, Copy)]
 struct Reached<'a> {
     statements: &'a [Statement],
@@ -190,7 +191,7 @@ fn variable_read(statements: &[Statement], x: usize, register: &Register) -> Opt
 
 // The least place at which a variable is read that some path of statements has not written by then.
 pub(crate) fn unwritten_read(statements: &[Statement], registers: &[Register]) -> Option<usize>
-    ensures { FirstOf statements.now registers.now (length registers.now) result }
+    ensures { FirstOf statements.now registers.now result }
 {
     registers
         .iter()

@@ -36,25 +36,6 @@ goes_on p a l = go p l.on a l.value l.piece (rest_of p a l) l.gap l.body l.rest 
 opened_by : (b : Bool) (q : State) → b ≡ true → cond b (Some q) None ≡ Some q
 opened_by b q e = ap (λ (x : Bool). cond x (Some q) None) e
 
--- By a mark, where spaces are free.
-by_mark : (p q : State) (m : ℕ) → tight_at p.cursor.spot ≡ false → opens p.cursor m ≡ true → space m ≡ false → wordy m ≡ false
-    → ((k : ℕ) → moved p (m ∷ []) m k ≡ q) → Living q → Living p
-by_mark p q m tight may s w moves on a =
-    let l = on (a + 2) in
-    let r = rest_of q (a + 2) l in
-    record {
-      piece = mark m;
-      on = q;
-      value = l.value;
-      gap = 32 ∷ [];
-      body = m ∷ [];
-      rest = r;
-      stands = subst (λ (t : Bool). Next t (mark m) (32 ∷ m ∷ r) (32 ∷ []) (m ∷ []) r) (sym tight) (refl, (refl, tt), (refl, s, w));
-      goes = opened_by (opens p.cursor m) (moved p (m ∷ []) m (a + 1)) may ∙ ap Some (moves (a + 1));
-      more = goes_on q (a + 2) l;
-      free = λ _. refl;
-    }
-
 -- By a mark whose place counts.
 by_placed : (p : State) (q : ℕ → State) (m : ℕ) → tight_at p.cursor.spot ≡ false → opens p.cursor m ≡ true → space m ≡ false → wordy m ≡ false
     → ((k : ℕ) → moved p (m ∷ []) m k ≡ q k) → ((k : ℕ) → Living (q k)) → Living p
@@ -73,6 +54,11 @@ by_placed p q m tight may s w moves on a =
       more = goes_on (q (a + 1)) (a + 2) l;
       free = λ _. refl;
     }
+
+-- By a mark, where spaces are free.
+by_mark : (p q : State) (m : ℕ) → tight_at p.cursor.spot ≡ false → opens p.cursor m ≡ true → space m ≡ false → wordy m ≡ false
+    → ((k : ℕ) → moved p (m ∷ []) m k ≡ q) → Living q → Living p
+by_mark p q m tight may s w moves on = by_placed p (λ _. q) m tight may s w moves (λ _. on)
 
 -- By a mark after which the text may end.
 by_end : (p q : State) (m : ℕ) (v : Property) → tight_at p.cursor.spot ≡ false → opens p.cursor m ≡ true → space m ≡ false → wordy m ≡ false

@@ -4,7 +4,7 @@ use Rattle.std.proofs.lemmas.List.{append_cancel_right, take-append-drop, drop-d
 use Rattle.std.specs.List.{position}
 use Rattle.std.proofs.lemmas.List.Quantifiers.{position-Some}
 use Rattle.std.proofs.lemmas.List.Sums.{fails_before_first}
-use Rattle.std.proofs.lemmas.Bool.{cases_lt}
+use Rattle.std.proofs.lemmas.Bool.{cases_lt, not-false, not-true}
 use Rattle.std.proofs.lemmas.Bool.Decides.{nat_tests}
 use Rattle.forms.specs.Bytes.{Every, Stops}
 use Rattle.property.specs.Reading.{Passed}
@@ -111,17 +111,9 @@ passed_to c t a n r h f g =
       high = high;
       every = λ k i j.
           let x : a + (k - a) ≡ k = omega arith in
-          sym (ap (λ (y : ℕ). c (get_or t y 0)) x) ∙ (sym (ap c (get_or-drop a t (k - a) 0)) ∙ unnot _ (p.2 (k - a) (omega arith)));
-      stops = λ _. sym (ap c (get_or-drop a t n 0)) ∙ unnot' _ p.1;
+          sym (ap (λ (y : ℕ). c (get_or t y 0)) x) ∙ (sym (ap c (get_or-drop a t (k - a) 0)) ∙ not-false _ (p.2 (k - a) (omega arith)));
+      stops = λ _. sym (ap c (get_or-drop a t n 0)) ∙ not-true _ p.1;
     }
-  where
-    unnot : (b : Bool) → not b ≡ false → b ≡ true
-    unnot true e = refl
-    unnot false e = sym e
-
-    unnot' : (b : Bool) → not b ≡ true → b ≡ false
-    unnot' false e = refl
-    unnot' true e = sym e
 
 pub passed_all : (c : ℕ → Bool) (t : List ℕ) (a : ℕ) (r : Option ℕ) → a ≤ length t → r ≡ position (λ b. not (c b)) (take (length t - a) (drop a t)) → r ≡ None
     → Passed c t a (length t)
@@ -135,14 +127,10 @@ passed_all c t a r h f g =
           let x : a + (k - a) ≡ k = omega arith in
           sym (ap (λ (y : ℕ). c (get_or t y 0)) x)
           ∙ (sym (ap c (get_or-drop a t (k - a) 0))
-          ∙ unnot _ (fails_before_first (λ b. not (c b)) (drop a t) (k - a) 0 (omega (arith, nowhere_left _ _ e, length-drop a t))));
+          ∙ not-false _ (fails_before_first (λ b. not (c b)) (drop a t) (k - a) 0 (omega (arith, nowhere_left _ _ e, length-drop a t))));
       stops = λ l. absurd (omega arith);
     }
   where
-    unnot : (b : Bool) → not b ≡ false → b ≡ true
-    unnot true e = refl
-    unnot false e = sym e
-
     nowhere_left : (n m : ℕ) → cond (ltb n m) (Some n) None ≡ None → m ≤ n
     nowhere_left n m e = elim (cases_lt n m) [
       | inl l ↦ absurd (let x : ltb n m ≡ true = grind (arith, nat_tests) in let y : ◌≡◌ {A = Option ℕ} (Some n) None = sym (ap (λ (b : Bool). cond b (Some n) None) x) ∙ e in let z : ◌≡◌ {A = ℕ} 0 1 = cc in omega arith)

@@ -133,11 +133,8 @@ abbrev pub holding : Key → Property → Property
 holding k P = cond (new_key P k) (with_register k P) P
 
 -- The key needs a ninth register.
-abbrev pub ninth_in : List Key → Key → Bool
-ninth_in ks k = position_or_len (same_key k) ks == length ks && nat_le 8 (length ks)
-
 abbrev pub ninth : Property → Key → Bool
-ninth P k = ninth_in P.registers k
+ninth P k = new_key P k && nat_le 8 (length P.registers)
 
 -- METHODS
 -- The place of the method of a name, or how many there are.

@@ -1,6 +1,8 @@
 -- What the parts of a draft stand for, as names in the text that it reads.
-use Rattle.std.specs.Prelude.{ℕ, ◌-◌, Bool, true, false, cond, ◌&&◌, List, [], map, length, take, drop, Some, None, vec_items, Option, nat_le}
+use Rattle.std.specs.Prelude.{ℕ, ◌-◌, Bool, true, false, cond, ◌&&◌, List, [], map, length, take, drop, vec_items, Option, nat_le}
+use Rattle.std.specs.Option.{option_map}
 use Rattle.kinds.specs.Refusals.{text_number}
+use Rattle.property.specs.Grammar.{worst}
 use Rattle.kinds.specs.declared.text_reason.TextReason.{TextReason}
 use Rattle.property.specs.States.{Declared, Key, key, Property, State}
 use Rattle.property.specs.declared.draft.Draft.{Draft}
@@ -36,8 +38,7 @@ key_of t g = key (is_constant g) (spelled t (name_of g))
 
 -- The number of a reason, where there is one.
 abbrev pub told : Option TextReason → Option ℕ
-told None = None
-told (Some e) = Some (text_number e)
+told o = option_map text_number o
 
 -- What a draft of the text t holds.
 abbrev pub sofar : List ℕ → Draft → Property
@@ -62,3 +63,7 @@ piece r x = spelled r.text.now x.name
 
 abbrev pub rest : Reading → Found → List ℕ
 rest r x = drop x.name.to r.text.now
+
+-- The first fault of a piece that was found, by the tests for it.
+abbrev pub first_flaw : (State → List ℕ → ℕ → List ℕ → List (Bool × ℕ)) → Reading → Found → Option ℕ
+first_flaw f r x = worst (f (seen r) (piece r x) x.byte (rest r x))

@@ -46,7 +46,7 @@ impl Partial {
     {
         Partial {
             kind,
-            // Kept 0 for the number and the arity until the method is read: an Option would have to be something where the label ends, which its method always precedes.
+            // Kept 0 for the number and the arity until the method is read: an Option would have to be unwrapped where the label ends, which its method always precedes.
             number: 0,
             arity: 0,
             count,

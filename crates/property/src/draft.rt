@@ -18,8 +18,8 @@ use topl::states::{ERROR, START};
 #[derive(Drop)]
 pub struct Draft {
     pub cursor: Cursor,
-    // Kept a name, empty where none waits: an Option would have to be something where the method is declared, which its name always precedes. In the spot the
-    // grammar could not spell it, since it shares the spots and has no text.
+    // Kept a name, empty where none waits: an Option would have to be unwrapped where the method is declared, which its name always precedes. A name in the spot
+    // means nothing to the grammar in specs/, which uses the same `Spot` and has no text to look it up in.
     pub word: Name,
     // Kept a name, empty until it is read: an Option would be asked by whoever reads a finished draft, which always has its name.
     pub name: Name,
@@ -39,6 +39,8 @@ impl Draft {
 }
 
 // A draft with the text that it reads, for the searches and the faults.
+// Kept written out wherever one is made: what a function returns a proof knows by equations alone, which do not reach into the tests of the searches, and the
+// goal `returns` of `Draft::visit` stays open.
 #[derive(Clone, Copy)]
 pub(crate) struct Reading<'a> {
     pub(crate) text: &'a [u8],

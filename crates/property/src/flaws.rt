@@ -1,31 +1,25 @@
 // The faults of a piece where it stands.
+// Kept an Option of the fault, in place of a Result: a fault is what each function here seeks, as the grammar's `worst` does, so None is no success with a
+// value, and `or` goes on to the next fault.
 ghost use Rattle.std.specs.Prelude.{◌≡◌, ℕ, true, false, nat_le, List, [], if◌then◌else◌, Some, None};
 ghost use Rattle.property.specs.Grammar.{name_flaws, room_flaws, arity_flaws, full, source_flaws, line_flaws, route_flaws, pattern_flaws, closing_flaws, label_flaws, inner_flaws, flaws, wants_word, worst, written_twice, variable_flaws, begun_flaws, fresh_flaws};
 ghost use Rattle.kinds.specs.Refusals.{text_number};
 ghost use Rattle.property.specs.States as state;
 ghost use Rattle.property.specs.States.{State};
-ghost use Rattle.property.specs.Views.{told, seen, piece, rest, spelled as spelling, name_of, is_constant};
+ghost use Rattle.property.specs.Views.{told, seen, piece, first_flaw, spelled as spelling, name_of, is_constant};
 
 use crate::draft::*;
-use crate::marks::*;
 use crate::reader::*;
 use crate::spot::*;
 use crate::table::*;
 use crate::words::*;
 use kinds::text_reason::TextReason;
 
-// A fault, where a test holds.
-fn fault(b: bool, reason: TextReason) -> Option<TextReason>
-    ensures { told result ≡ (if b then Some (text_number reason) else None) }
-{
-    b.then_some(reason)
-}
-
 // Something is too much, where a test holds.
 fn too_much(b: bool) -> Option<TextReason>
     ensures { told result ≡ (if b then Some 11 else None) }
 {
-    fault(b, TextReason::TooMuch)
+    b.then_some(TextReason::TooMuch)
 }
 
 // The fault of a name that needs room, where a test says that there is none.
@@ -81,7 +75,7 @@ impl Reading<'_> {
     fn source_flaw(&self, w: &[u8]) -> Option<TextReason>
         ensures { told result ≡ worst (source_flaws (seen self.now) w.now) }
     {
-        room_flaw(w, self.full(w)).or(fault(is_error(w), TextReason::LeavesError))
+        room_flaw(w, self.full(w)).or(is_error(w).then_some(TextReason::LeavesError))
     }
 
     // The fault of a line's first word.
@@ -98,14 +92,14 @@ impl Reading<'_> {
     fn method_flaw(&self, w: &[u8]) -> Option<TextReason>
         ensures { told result ≡ worst (line_flaws Line.MethodName (seen self.now) w.now) }
     {
-        name_flaw(w).or(fault(self.knows(w), TextReason::BadMethod))
+        name_flaw(w).or(self.knows(w).then_some(TextReason::BadMethod))
     }
 
     // The fault of the name of a method that a label calls.
     fn callee_flaw(&self, w: &[u8]) -> Option<TextReason>
         ensures { told result ≡ worst (label_flaws Label.Callee (seen self.now) w.now 0 []) }
     {
-        name_flaw(w).or(fault(!self.knows(w), TextReason::BadMethod))
+        name_flaw(w).or((!self.knows(w)).then_some(TextReason::BadMethod))
     }
 
     // The fault of a method's number.
@@ -113,7 +107,10 @@ impl Reading<'_> {
         ensures { told result ≡ worst (line_flaws Line.MethodNumber (seen self.now) w.now) }
     {
         match decimal(w) {
-            Some(n) => fault(self.draft.numbered(u32::from(n)), TextReason::BadMethod),
+            Some(n) => self
+                .draft
+                .numbered(u32::from(n))
+                .then_some(TextReason::BadMethod),
             None => Some(TextReason::TooMuch),
         }
     }
@@ -124,7 +121,7 @@ impl Reading<'_> {
     {
         let label = self.draft.cursor.label;
         let params = label.count.checked_sub(1);
-        fault(params != Some(label.arity), TextReason::OtherArity)
+        (params != Some(label.arity)).then_some(TextReason::OtherArity)
     }
 
     // Whether a constant or a variable that may stand after `!` or `<` needs a ninth register.
@@ -132,7 +129,7 @@ impl Reading<'_> {
         ensures { result ≡ wants_word (seen self.now).sofar (is_constant register) (spelling self.now.text.now (name_of register)) }
     {
         let w = spelled(self.text, register.name());
-        register.well_begun(self.text) && !reserved(w) && w.len() <= 12 && self.ninth(register)
+        register.well_begun(self.text) && name_flaw(w).is_none() && self.ninth(register)
     }
 
     // Whether the label would write a variable again.
@@ -145,7 +142,7 @@ impl Reading<'_> {
 
     // The fault of a pattern.
     fn pattern_flaw(&self, found: Found) -> Option<TextReason>
-        ensures { told result ≡ worst (pattern_flaws false (seen self.now) (piece self.now found) found.byte (rest self.now found)) }
+        ensures { told result ≡ first_flaw (pattern_flaws false) self.now found }
     {
         match found.byte {
             b'*' => None,
@@ -166,7 +163,7 @@ impl Reading<'_> {
         ensures { told result ≡ worst (variable_flaws false (seen self.now) (piece self.now found) found.byte) }
     {
         self.fresh_variable_flaw(found.name)
-            .or(fault(self.twice(found), TextReason::WrittenTwice))
+            .or(self.twice(found).then_some(TextReason::WrittenTwice))
     }
 
     // The fault of a variable that begins a label: nothing is written by then.
@@ -179,7 +176,7 @@ impl Reading<'_> {
 
     // The fault of what begins a label.
     fn begin_flaw(&self, found: Found) -> Option<TextReason>
-        ensures { told result ≡ worst (label_flaws Label.Begin (seen self.now) (piece self.now found) found.byte (rest self.now found)) }
+        ensures { told result ≡ first_flaw (label_flaws Label.Begin) self.now found }
     {
         let span = self.draft.cursor.statement.span;
         let w = spelled(self.text, found.name);
@@ -194,7 +191,7 @@ impl Reading<'_> {
 
     // The fault of a pattern that begins a label.
     fn begun_flaw(&self, found: Found) -> Option<TextReason>
-        ensures { told result ≡ worst (begun_flaws (nat_le 3 self.now.draft.now.cursor.statement.span) (seen self.now) (piece self.now found) found.byte (rest self.now found)) }
+        ensures { told result ≡ first_flaw (begun_flaws (nat_le 3 self.now.draft.now.cursor.statement.span)) self.now found }
     {
         if self.draft.cursor.statement.span >= 3 {
             return late_flaw(spelled(self.text, found.name), found.byte);
@@ -220,7 +217,7 @@ impl Reading<'_> {
 
     // The fault of a piece of a label.
     fn label_flaw(&self, label: Label, found: Found) -> Option<TextReason>
-        ensures { told result ≡ worst (label_flaws label (seen self.now) (piece self.now found) found.byte (rest self.now found)) }
+        ensures { told result ≡ first_flaw (label_flaws label) self.now found }
     {
         match label {
             Label::Begin => self.begin_flaw(found),
@@ -232,7 +229,7 @@ impl Reading<'_> {
 
     // The fault of a piece of a pattern.
     fn inner_flaw(&self, inner: Inner, found: Found) -> Option<TextReason>
-        ensures { told result ≡ worst (inner_flaws inner (seen self.now) (piece self.now found) found.byte (rest self.now found)) }
+        ensures { told result ≡ first_flaw (inner_flaws inner) self.now found }
     {
         match inner {
             Inner::First if found.byte == b')' => self.closing_flaw(),
@@ -244,7 +241,7 @@ impl Reading<'_> {
 
     // The fault of a piece; the first by number.
     pub(crate) fn flaw(&self, found: Found) -> Option<TextReason>
-        ensures { told result ≡ worst (flaws (seen self.now) (piece self.now found) found.byte (rest self.now found)) }
+        ensures { told result ≡ first_flaw flaws self.now found }
     {
         let w = spelled(self.text, found.name);
         match self.draft.cursor.spot {
@@ -265,7 +262,6 @@ fn late_flaw(w: &[u8], byte: u8) -> Option<TextReason>
     match byte {
         b'*' => None,
         b'!' | b'<' => Some(TextReason::TooMuch),
-        _ if reserved(w) => Some(TextReason::NoForm),
-        _ => Some(TextReason::TooMuch),
+        _ => room_flaw(w, true),
     }
 }

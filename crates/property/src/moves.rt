@@ -9,7 +9,6 @@ ghost use Rattle.property.specs.Views.{view, sofar, spelled as spelling, key_of}
 
 use crate::cursor::*;
 use crate::draft::*;
-use crate::marks::*;
 use crate::reader::*;
 use crate::spot::*;
 use crate::table::*;
@@ -159,8 +158,8 @@ impl Draft {
             }
             Line::MethodNumber => Spot::Line(Line::MethodArity(capped(spelled(text, name)))),
             Line::MethodArity(number) => {
-                // Kept `as`: std has no `From` of u32 for usize.
-                self.add_method(number, capped(spelled(text, name)) as usize)?;
+                let arity = decimal(spelled(text, name)).map_or(LARGE_ARITY, usize::from);
+                self.add_method(number, arity)?;
                 Spot::Line(Line::Ending)
             }
         };
@@ -293,8 +292,7 @@ impl Draft {
     fn whole(&mut self, text: &[u8], found: Found) -> Result<(), AllocError>
         ensures { OnOk result (view text.now self.new ≡ state.whole_begins (spelling text.now found.name) found.byte found.name.from (view text.now self.old)) }
     {
-        let spot = self.cursor.spot;
-        self.cursor = self.cursor.labelled(Kind::Both, 0, spot);
+        self.cursor.label = Partial::opened(Kind::Both, 0);
         self.pattern(text, found)
     }
 

@@ -1,6 +1,6 @@
 // Which bytes may come at each spot, and where a text may end.
 ghost use Rattle.std.specs.Prelude.{◌≡◌};
-ghost use Rattle.property.specs.Grammar.{head_opens, line_opens, route_opens, pattern_opens, label_opens, inner_opens, opens_at, tight_at, line_ends, label_ends, ends_at};
+ghost use Rattle.property.specs.Grammar.{head_opens, line_opens, route_opens, label_opens, inner_opens, opens_at, tight_at, line_ends, label_ends, ends_at};
 
 use crate::marks::*;
 use crate::spot::*;
@@ -8,26 +8,17 @@ use crate::spot::*;
 // The word that the first line begins with.
 const KEYWORD: [u8; 8] = *b"property";
 
-// Whether a pattern begins with the byte.
-fn begins_pattern(b: u8) -> bool
-    ensures { result ≡ pattern_opens b }
-{
-    matches!(
-        classify(char::from(b)),
-        Mark::Capital | Mark::Small | Mark::Star | Mark::Bang | Mark::Less
-    )
-}
-
 impl Head {
     // Whether the byte may come.
     pub(crate) fn opens(self, b: u8) -> bool
         ensures { result ≡ head_opens self b }
     {
-        match self {
-            Head::Margin => b == b' ' || b == b'p',
-            Head::Keyword(read) => b == KEYWORD[read.min(7)],
-            Head::Gap => b == b' ',
-            Head::Title => b.is_ascii_alphabetic(),
+        match (self, classify(char::from(b))) {
+            (Head::Margin | Head::Gap, Mark::Space) => true,
+            (Head::Margin, _) => b == b'p',
+            (Head::Keyword(read), _) => b == KEYWORD[read.min(7)],
+            (Head::Title, Mark::Capital | Mark::Small) => true,
+            _ => false,
         }
     }
 }
@@ -77,16 +68,19 @@ impl Label {
     pub(crate) fn opens(self, b: u8) -> bool
         ensures { result ≡ label_opens self b }
     {
-        match self {
-            Label::Begin => begins_pattern(b),
-            Label::Star => matches!(b, b':' | b';' | b'\n'),
-            Label::Becomes => b == b':',
-            Label::Equals => b == b'=',
-            Label::Callee => b.is_ascii_alphabetic(),
-            Label::Open => b == b'(',
-            Label::Comma => matches!(b, b',' | b')'),
-            Label::End => matches!(b, b';' | b'\n'),
-        }
+        matches!(
+            (self, classify(char::from(b))),
+            (
+                Label::Begin,
+                Mark::Capital | Mark::Small | Mark::Star | Mark::Bang | Mark::Less
+            ) | (Label::Star, Mark::Colon | Mark::Semicolon | Mark::Newline)
+                | (Label::Becomes, Mark::Colon)
+                | (Label::Equals, Mark::Equals)
+                | (Label::Callee, Mark::Capital | Mark::Small)
+                | (Label::Open, Mark::Open)
+                | (Label::Comma, Mark::Comma | Mark::Close)
+                | (Label::End, Mark::Semicolon | Mark::Newline)
+        )
     }
 
     // Whether the text may end.
@@ -102,13 +96,16 @@ impl Inner {
     pub(crate) fn opens(self, b: u8) -> bool
         ensures { result ≡ inner_opens self b }
     {
-        match self {
-            Inner::Returned | Inner::Param => begins_pattern(b),
-            Inner::First => b == b')' || begins_pattern(b),
-            Inner::Negated(_) => b.is_ascii_lowercase(),
-            Inner::Quoted(_) => b.is_ascii_alphabetic(),
-            Inner::Unquote => b == b'>',
-        }
+        matches!(
+            (self, classify(char::from(b))),
+            (
+                Inner::Returned | Inner::First | Inner::Param,
+                Mark::Capital | Mark::Small | Mark::Star | Mark::Bang | Mark::Less
+            ) | (Inner::First, Mark::Close)
+                | (Inner::Negated(_), Mark::Small)
+                | (Inner::Quoted(_), Mark::Capital | Mark::Small)
+                | (Inner::Unquote, Mark::Greater)
+        )
     }
 }
 

@@ -82,7 +82,7 @@ impl Reader<'_> {
         if self.text[from].is_ascii_alphabetic() {
             return Ok(skip(self.text, Class::Wordy, from));
         }
-        if !Class::Digits.has(self.text[from]) {
+        if !self.text[from].is_ascii_digit() {
             return Ok(from + 1);
         }
         let end = skip(self.text, Class::Digits, from);

@@ -10,10 +10,8 @@ ghost use Rattle.property.specs.declared.text.Failure.TheVariants.{At, Memory};
 
 use crate::cursor::*;
 use crate::draft::*;
-use crate::moves::*;
 use crate::reader::*;
 use crate::table::*;
-use crate::words::*;
 use forms::finding::Finding;
 use kinds::text_reason::TextReason;
 use std::alloc::{AllocError, Global};

@@ -23,9 +23,7 @@ pub(crate) fn spelled<'a>(text: &'a [u8], name: Name) -> &'a [u8]
 pub(crate) fn reserved(w: &[u8]) -> bool
     ensures { result ≡ word.reserved w.now }
 {
-    [b"property".as_slice(), b"method", b"call", b"ret"]
-        .iter()
-        .any(|r| w == *r)
+    [b"property".as_slice(), b"method", b"call", b"ret"].contains(&w)
 }
 
 // Whether a word is the state that each property starts in.
@@ -112,12 +110,19 @@ pub(crate) fn decimal(digits: &[u8]) -> Option<u16>
     digits.iter().try_fold(0, |v, b| appended(v, *b))
 }
 
+// What stands for a method's number that is too large.
+// Kept a number: the text has a fault there, and an Option would have to go on into the spot and the method.
+const LARGE_NUMBER: u32 = 65536;
+
+// What stands for a method's arity that is too large.
+// Kept a number: the text has a fault there, and an Option would have to go on into the method.
+pub(crate) const LARGE_ARITY: usize = 65536;
+
 // The number that digits write, where all over 65,535 stand as one.
-// Kept 65,536 for what is too large: the text has a fault there, and an Option would have to go on into the spot and the method.
 pub(crate) fn capped(digits: &[u8]) -> u32
     ensures { result ≡ most digits.now }
 {
-    decimal(digits).map_or(65536, u32::from)
+    decimal(digits).map_or(LARGE_NUMBER, u32::from)
 }
 
 // Whether a colon comes after the spaces at a place.

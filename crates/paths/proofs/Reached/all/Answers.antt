@@ -1,7 +1,9 @@
-use Rattle.std.proofs.Common.{◌≡◌, ℕ, zero, suc, ◌<◌, Bool, true, false, List, [], ◌∷◌, length, get_or, set, sym, refl, subst, arith}
+use Rattle.std.proofs.Common.{◌≡◌, ℕ, zero, suc, ◌<◌, Bool, true, false, not, ◌&&◌, List, [], ◌∷◌, length, get_or, set, sym, refl, subst, arith}
 use Rattle.std.proofs.lemmas.Bool.{true≢false}
-use Rattle.paths.specs.Paths.{Unwritten, Closed, start, along, unset, state}
-use Rattle.property.specs.declared.table.Statement.{Statement}
+use Rattle.paths.specs.Paths.{Unwritten, start, along, state}
+use Rattle.paths.specs.Search.{Complete}
+use Rattle.paths.proofs.Unset.{unset}
+use Rattle.paths.specs.declared.Reached.{Reached}
 use Rattle.paths.proofs.Reached.all.Goals as goal
 
 -- Setting a flag that was not set.
@@ -12,10 +14,17 @@ falls (false ∷ f) zero h e = omega arith
 falls (true ∷ f) (suc k) h e = falls f k (omega arith) e
 falls (false ∷ f) (suc k) h e = let x = falls f k (omega arith) e in omega arith
 
--- A path never leaves a set that holds its start and is closed.
-stays : (ss : List Statement) (x : ℕ) (f : List Bool) → Closed ss x f → get_or f 0 false ≡ true → (q : ℕ) → Unwritten ss x q → get_or f q false ≡ true
-stays ss x f c s q start = s
-stays ss x f c s q (along k d h w u) = c k d h w (stays ss x f c s (state (get_or ss k d).source) u)
+-- A statement that does not write leads from a found state only to a found one, where none leads further.
+forced : (a b d : Bool) → not a && (b && not d) ≡ false → a ≡ false → b ≡ true → d ≡ true
+forced a b true e h k = refl
+forced true b false e h k = absurd (true≢false h)
+forced false true false e h k = absurd (true≢false e)
+forced false false false e h k = absurd (true≢false (sym k))
+
+-- A path never leaves a complete search that has found its start.
+stays : (r : Reached) → Complete r → get_or r.seen 0 false ≡ true → (q : ℕ) → Unwritten r.statements.now r.register q → get_or r.seen q false ≡ true
+stays r c s q start = s
+stays r c s q (along k d h w u) = forced _ _ _ (c k d h) w (stays r c s (state (get_or r.statements.now k d).source) u)
 
 pub loop-q-init : goal.loop-q-init
 loop-q-init c =
@@ -35,4 +44,4 @@ loop-q-smaller c =
 
 pub returns-clause-exact : goal.returns-clause-exact
 returns-clause-exact c =
-    let r = c.loop-q.reached in λ q. (c.loop-q.invariant.sound q, stays r.statements.now r.register r.seen c.in_default.ensures c.loop-q.invariant.begun q)
+    let r = c.loop-q.reached in λ q. (c.loop-q.invariant.sound q, stays r c.in_default.ensures c.loop-q.invariant.begun q)

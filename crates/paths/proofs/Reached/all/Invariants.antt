@@ -1,5 +1,5 @@
 use Rattle.std.proofs.Common.{◌≡◌, true, false, get_or}
-use Rattle.paths.specs.Paths.{unset}
+use Rattle.paths.proofs.Unset.{unset}
 use Rattle.paths.specs.Search.{Searches, AllReached}
 use Rattle.paths.proofs.Reached.all.Given as goal
 

@@ -1,13 +1,12 @@
-use Rattle.std.proofs.Common.{◌≡◌, ℕ, List, length, Some, None, Option, refl, sym, subst, inr}
+use Rattle.std.proofs.Common.{◌≡◌, ℕ, List, Some, None, Option, refl, sym, subst, inr}
 use Rattle.paths.specs.Outcomes.{Refuses}
 use Rattle.paths.specs.Reads.{FirstOf}
 use Rattle.property.specs.declared.table.Register.{Register}
 use Rattle.property.specs.declared.table.Statement.{Statement}
 use Rattle.paths.proofs.text.read.Goals as goal
 
-both : (ss ts : List Statement) (gs hs : List Register) (o : Option ℕ) → ss ≡ ts → gs ≡ hs → FirstOf ss gs (length gs) o → FirstOf ts hs (length hs) o
-both ss ts gs hs o e f x =
-    subst (λ (ys : List Statement). FirstOf ys hs (length hs) o) e (subst (λ (ys : List Register). FirstOf ss ys (length ys) o) f x)
+both : (ss ts : List Statement) (gs hs : List Register) (o : Option ℕ) → ss ≡ ts → gs ≡ hs → FirstOf ss gs o → FirstOf ts hs o
+both ss ts gs hs o e f x = subst (λ (ys : List Statement). FirstOf ys hs o) e (subst (λ (ys : List Register). FirstOf ss ys o) f x)
 
 pub returns-in-Some : goal.returns-in-Some
 returns-in-Some c = (
