@@ -130,7 +130,7 @@ impl<K: Kind> Rows<K> {
         ensures { Written (from.parent < self.now.state.grid.book.used) (steps_by self.now.state.grid.book.entries.items from) page.old page.new result }
     {
         let parent = from.parent;
-        if parent as usize >= self.state.grid.book.used {
+        if usize::from(parent) >= self.state.grid.book.used {
             return None;
         }
         let before = self.state.grid.book.depth(parent);

@@ -1,6 +1,5 @@
 use Rattle.std.proofs.Common.{◌≡◌, ℕ, ◌+◌, ◌-◌, ◌<◌, ◌≤◌, Err, sym, ap, ◌∙◌, subst}
 use Rattle.std.proofs.lemmas.Result.{err_from_is_err_and}
-use Rattle.engine.specs.Trails.{room_of}
 use Rattle.engine.specs.Fronts.{count_at}
 use Rattle.engine.specs.Grids.{grid_of}
 use Rattle.engine.specs.Judging.{Judged}

@@ -1,8 +1,6 @@
-use Rattle.std.proofs.Common.{◌≡◌, ◌∷◌, Ok, Err, sym, ap, ◌∙◌, subst}
+use Rattle.std.proofs.Common.{Ok, Err, sym, ap, ◌∙◌, subst}
 use Rattle.std.proofs.lemmas.Result.{err_from_is_err_and}
 use Rattle.topl.specs.Ledger.{refused, Draws}
-use Rattle.sources.specs.Sayings.{says}
-use Rattle.sources.specs.Sources.{Next}
 use Rattle.watch.specs.Answers.{drew, stands_for}
 use Rattle.watch.specs.Shows.{meaning}
 use Rattle.watch.proofs.Drawing.{draw_fed}
