@@ -216,7 +216,7 @@ fn step_row<K: Kind>(
         (each (λ c. landed position.now.number (moves P w position.now.scene.now.base c)) (row_at K.Kind.class grid.old.cap (grid_of grid.old) (position.now.scene.now.base % 5))) result }
 {
     let source = Slot::of(position.scene.base);
-    let count = grid.front.counts[source.at];
+    let count = grid.front.count_at(source);
     // Kept an index loop: the grid that the row stands in is changed on the way, so no iterator can hold the row.
     for i in 0..count {
         let at = entered_at::<K>(grid, source, i);

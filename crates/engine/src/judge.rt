@@ -28,9 +28,10 @@ fn judge_position<K: Kind>(
 {
     let slot = Slot::of(position.number);
     let used = grid.book.used;
-    let before = grid.front.counts[slot.at];
+    let before = grid.front.count_at(slot);
     fill_position::<K>(grid, position)?;
-    let need = (used + grid.front.counts[slot.at]).saturating_sub(before);
+    let after = grid.front.count_at(slot);
+    let need = (used + after).saturating_sub(before);
     if grid.book.room() < need {
         return Err(Decision::Overfills);
     }

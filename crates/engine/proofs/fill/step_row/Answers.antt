@@ -20,7 +20,7 @@ returns-in_err-step_configuration-clause-brings g c P k w W T =
     rw (told.1, told.2)
     (row_error P w base p class s k c.step_configuration.new.grid (i + 1) x
     (row_more P w base p class s k c.loop-i.grid c.step_configuration.new.grid c.loop-i.invariant.safe c.requires near i c.of-source.result.at c.of-source.ensures
-    (stands_for class at.result.configuration) at.result.entry (Err x) c.loop-i-test.true at.ensures.stands at.ensures.entry T (c.loop-i.invariant.brings P k w W T) (c.in_err-step_configuration.ensures.brings P k w W)))
+    (stands_for class at.result.configuration) at.result.entry (Err x) (let n = c.count_at-count.ensures.is in omega (arith, c.loop-i-test.true)) at.ensures.stands at.ensures.entry T (c.loop-i.invariant.brings P k w W T) (c.in_err-step_configuration.ensures.brings P k w W)))
 
 pub loop-i-preserved : goal.loop-i-preserved
 loop-i-preserved g c =
@@ -36,7 +36,7 @@ loop-i-preserved g c =
       safe = safe_on (p % 5) s c.loop-i.grid c.step_configuration.new.grid (Ok tt) c.loop-i.invariant.safe c.in_ok-step_configuration.ensures.safe;
       brings = λ P k w W T.
           row_more P w base p class s k c.loop-i.grid c.step_configuration.new.grid c.loop-i.invariant.safe c.requires near i c.of-source.result.at c.of-source.ensures
-          (stands_for class at.result.configuration) at.result.entry (Ok tt) c.loop-i-test.true at.ensures.stands at.ensures.entry T (c.loop-i.invariant.brings P k w W T) (c.in_ok-step_configuration.ensures.brings P k w W);
+          (stands_for class at.result.configuration) at.result.entry (Ok tt) (let n = c.count_at-count.ensures.is in omega (arith, c.loop-i-test.true)) at.ensures.stands at.ensures.entry T (c.loop-i.invariant.brings P k w W T) (c.in_ok-step_configuration.ensures.brings P k w W);
     }
 
 pub returns-clause-brings : goal.returns-clause-brings
@@ -44,5 +44,5 @@ returns-clause-brings g c P k w W T =
     let s = c.args.grid.now in
     let base = c.args.position.now.scene.now.base in
     let p = c.args.position.now.number in
-    let l = subst (λ (z : ℕ). count_at s.front z ≤ c.loop-i.i) c.of-source.ensures c.loop-i-test.false in
+    let l = subst (λ (z : ℕ). count_at s.front z ≤ c.loop-i.i) c.of-source.ensures (let n = c.count_at-count.ensures.is in omega (arith, c.loop-i-test.false)) in
     row_end P w base p g.K.Kind.class s k c.loop-i.grid c.loop-i.i l (c.loop-i.invariant.brings P k w W T)

@@ -1,4 +1,4 @@
-use Rattle.std.proofs.Common.{◌≡◌, ℕ, ◌+◌, ◌-◌, ◌<◌, ◌≤◌, Err, sym, ap, ◌∙◌, subst}
+use Rattle.std.proofs.Common.{◌≡◌, ℕ, ◌+◌, ◌-◌, ◌<◌, ◌≤◌, Err, sym, ap, ◌∙◌, subst, ap₂}
 use Rattle.std.proofs.lemmas.Result.{err_from_is_err_and}
 use Rattle.engine.specs.Fronts.{count_at}
 use Rattle.engine.specs.Grids.{grid_of}
@@ -22,7 +22,7 @@ returns-then-room-need-clause-rules g c P k L w W R B =
     let s = c.args.grid.now in
     let t = c.fill_position.new.grid in
     let position = c.args.position.now in
-    let need = subst (λ (z : ℕ). c.saturating_sub-need.result ≡ s.book.used + count_at t.front z - count_at s.front z) c.of-slot.ensures c.saturating_sub-need.ensures in
+    let need = subst (λ (z : ℕ). c.saturating_sub-need.result ≡ s.book.used + count_at t.front z - count_at s.front z) c.of-slot.ensures (c.saturating_sub-need.ensures ∙ ap₂ (λ (a b : ℕ). s.book.used + a - b) c.count_at-after.ensures.is c.count_at-before.ensures.is) in
     judged_full g.K.Kind.class s.cap (grid_of s) (grid_of t) position.number P k L w position.scene.now.base R (room_for s) (room_by s.cap t c.in_ok-fill_position.ensures.safe.cap) B
     (c.in_ok-fill_position.ensures.fills P k L w W R) c.saturating_sub-need.result need (subst (λ (z : ℕ). z < c.saturating_sub-need.result) c.room.ensures c.if-room-need.true)
 
@@ -31,6 +31,6 @@ returns-clause-rules g c P k L w W R B =
     let s = c.args.grid.now in
     let t = c.fill_position.new.grid in
     let position = c.args.position.now in
-    let need = subst (λ (z : ℕ). c.saturating_sub-need.result ≡ s.book.used + count_at t.front z - count_at s.front z) c.of-slot.ensures c.saturating_sub-need.ensures in
+    let need = subst (λ (z : ℕ). c.saturating_sub-need.result ≡ s.book.used + count_at t.front z - count_at s.front z) c.of-slot.ensures (c.saturating_sub-need.ensures ∙ ap₂ (λ (a b : ℕ). s.book.used + a - b) c.count_at-after.ensures.is c.count_at-before.ensures.is) in
     judged_goes g.K.Kind.class s.cap (grid_of s) (grid_of t) position.number P k L w position.scene.now.base R (room_for s) (room_by s.cap t c.in_ok-fill_position.ensures.safe.cap) B
     (c.in_ok-fill_position.ensures.fills P k L w W R) c.saturating_sub-need.result need (subst (λ (z : ℕ). c.saturating_sub-need.result ≤ z) c.room.ensures c.if-room-need.false)
