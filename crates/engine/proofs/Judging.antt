@@ -34,7 +34,7 @@ pub record Along {V : Type 0} (class : V → Class) (cap room : ℕ) (g : Grid V
   pub entered : g.used ≡ entries_before P k L w p
   pub tracked : (q : ℕ) → base ≤ q → q ≤ last → Tracked class cap P k w q g (q % 5)
 
--- a position that is filled: what came to it decides
+-- Position p is filled from grid g, and h is the grid then: what came to it decides.
 module _ {V : Type 0} (class : V → Class) (cap : ℕ) (g h : Grid V) (base p : ℕ) (P : T.Table) (k : Registers) (L : List T.Event) (w : World) (R : Ready class cap g base p P k L w) where
   abbrev pub row : ℕ → List Configuration
   row q = row_at class cap g (q % 5)
@@ -42,20 +42,23 @@ module _ {V : Type 0} (class : V → Class) (cap : ℕ) (g h : Grid V) (base p :
   abbrev pub came : List Configuration
   came = incoming P w row p base (p - base)
 
+  -- `error` is reached where it is among what came
   pub came_errors : D.any_error (reached P k w p) ≡ D.any_error came
   came_errors = errs P k L w row base p R.steps R.from R.earlier (row p) R.before ∙ ap (λ (b : Bool). b || D.any_error came) R.safe
 
   module _ (long : length g.front.states ≡ 320) (as_long : length g.front.entries ≡ 320) (few : (j : ℕ) → count_at g.front j ≤ 64) where
-    -- the grid before anything came
+    -- the grid as the moves begin: nothing has spilled yet
     abbrev pub begun : Grid V
     begun = grid (record { states = g.front.states; entries = g.front.entries; counts = g.front.counts; spilled = false; long = long; as_long = as_long; few = few }) g.rows g.book g.used
 
     filled : Grows class cap (p % 5) P k w p begun h came → Filled cap (row_at class cap h (p % 5)) (row p ++ came) h.front.spilled
     filled G = G.fill (row p) (filled_first cap (row p) R.once)
 
+    -- where it spills, more are reached than it may have
     pub came_spills : Grows class cap (p % 5) P k w p begun h came → h.front.spilled ≡ true → cap < D.count P k w p
     came_spills G s = over_count P k L w row base p R.steps R.from R.earlier (row p) R.before cap ((filled G).over s)
 
+    -- else it stands
     pub came_stands : base ≤ p → D.any_error came ≡ false → Grows class cap (p % 5) P k w p begun h came → h.front.spilled ≡ false → Stood class cap g h p P k w
     came_stands from e G s =
         let new = row_at class cap h (p % 5) in
@@ -93,6 +96,7 @@ ruled_stops (Breaks b) e = let z : ◌≡◌ {A = ℕ} 0 1 = cc in omega arith
 ruled_stops Spills e = let z : ◌≡◌ {A = ℕ} 0 1 = cc in omega arith
 ruled_stops Overfills e = let z : ◌≡◌ {A = ℕ} 0 1 = cc in omega arith
 
+-- and no success
 decided_not : (d : Decision) → ◌≡◌ {A = Result (Unit {0}) Decision} (Err d) (Ok tt) → ⊥
 decided_not d e = let z : ◌≡◌ {A = ℕ} 0 1 = cc in omega arith
 
@@ -109,8 +113,9 @@ judged_stops class cap g h p P k L w d e s = record {
   tracked = λ z. absurd (decided_not d z);
 }
 
--- a position that is filled is ruled on
+-- Position p was filled from grid g, and h is the grid then: it is ruled on.
 module _ {V : Type 0} (class : V → Class) (cap : ℕ) (g h : Grid V) (p : ℕ) (P : T.Table) (k : Registers) (L : List T.Event) (w : World) where
+  -- what is decided once it is filled is the rule's word
   pub judged_err : (d : Decision) → Fills class cap g h p P k w (Err d) → Judged class cap g h p P k L w (Err d)
   judged_err (Breaks b) f =
       judged_stops class cap g h p P k L w (Breaks b) (ap D.breaks f.0 ∙ rules_broken P k cap (room_of g.book) (so_far L) w p f.1) (subst (λ (q : ℕ). ErrsBy P k w q (steps_by h.book b.last)) (sym f.0) f.2)
@@ -132,12 +137,14 @@ module _ {V : Type 0} (class : V → Class) (cap : ℕ) (g h : Grid V) (p : ℕ)
         let long = S.long in
         (omega arith, omega arith, omega arith)
 
+    -- the book has too few entries
     pub judged_full : room_of h.book < need → Judged class cap g h p P k L w (Err Overfills)
     judged_full l =
         let a = needed.0 in
         let b = needed.1 in
         judged_stops class cap g h p P k L w Overfills (rules_full P k cap (room_of g.book) (so_far L) w p S.no_error needed.2 (omega arith)) tt
 
+    -- it has enough
     pub judged_goes : need ≤ room_of h.book → Judged class cap g h p P k L w (Ok tt)
     judged_goes l =
         let a = needed.0 in

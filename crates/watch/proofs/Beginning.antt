@@ -1,5 +1,5 @@
 -- What making a watch and a begin do to the ledger that it shows.
-use Rattle.std.proofs.Common.{◌≡◌, ℕ, ◌+◌, ◌*◌, ◌<◌, ◌≤◌, List, map, length, None, Ok, vec_items, vec_len, sym, refl, ap, ◌∙◌, subst, arith, Bor}
+use Rattle.std.proofs.Common.{◌≡◌, ℕ, ◌+◌, ◌*◌, ◌<◌, ◌≤◌, List, map, length, None, Ok, Err, vec_items, vec_len, Result, sym, refl, ap, ◌∙◌, subst, arith, Bor}
 use Rattle.std.proofs.lemmas.List.{length-map}
 use Rattle.kinds.specs.declared.phase.Phase.TheVariants as phases
 use Rattle.topl.specs.Lists.{Class}
@@ -12,7 +12,9 @@ use Rattle.topl.proofs.Lasting.{lasting}
 use Rattle.topl.proofs.Refusing.{refusing}
 use Rattle.engine.specs.declared.property.Table.{Table}
 use Rattle.engine.specs.Meant.{meant}
+use Rattle.engine.specs.Views.{number}
 use Rattle.engine.specs.declared.state.State.{State}
+use Rattle.engine.specs.declared.rows.Unsuited.{Unsuited}
 use Rattle.engine.specs.Opening.{Opens}
 use Rattle.watch.specs.declared.held.Held.{Held}
 use Rattle.watch.specs.declared.held.Stage.{Stage}
@@ -46,14 +48,26 @@ made class s board book a b = record {
 }
 
 module _ {V : Type 0} (class : V → Class) (s : State V) (h : Held) (l : Ledger) (sh : Agrees class s h l) where
-  pub reasons_same : (P : T.Table) (values : List V) (given wanted cap : ℕ) → given ≡ length values → wanted ≡ length P.constants →
-      opening_reason (phase_of h.stage) (vec_len s.grid.board) (length (vec_items s.grid.book.entries)) given wanted cap ≡ begin_reason l P (map class values) cap
-  reasons_same P values given wanted cap g w =
-      λ j. opening_reason (sh.phase j) (sh.board j) (sh.book j) ((g ∙ sym (length-map values class)) j) (w j) cap
+  -- what the tests let pass, the ledger does
+  pub begin_free : (x : Bor Table) (values : List V) (cap wanted : ℕ) → wanted ≡ length (vec_items x.now.constants) →
+      opening_reason (phase_of h.stage) (vec_len s.grid.board) (length (vec_items s.grid.book.entries)) (length values) wanted cap ≡ None → begin_reason l (meant x.now) (map class values) cap ≡ None
+  begin_free x values cap wanted w free =
+      let n : wanted ≡ length (meant x.now).constants = w ∙ sym (length-map (vec_items x.now.constants) number) in
+      (λ j. opening_reason (sym sh.phase j) (sym sh.board j) (sym sh.book j) (length-map values class j) (sym n j) cap) ∙ free
 
   module _ (x : Bor Table) (values : List V) (cap : ℕ) (free : begin_reason l (meant x.now) (map class values) cap ≡ None) where
     fits : (l.phase ≡ phases.Blank) × (((0 < cap) × (cap ≤ 64)) × ((length (map class values) ≡ length (meant x.now).constants) × ((40 * cap + 64 ≤ l.board) × (0 < l.book))))
     fits = (refusing.0 l.phase l.board l.book (length (map class values)) (length (meant x.now).constants) cap).is_none.0 free
+
+    -- the rows take what the tests let pass
+    pub opened : (t : State V) (r : Result (Unit {0}) Unsuited) → Opens class s t (meant x.now) values cap r → r ≡ Ok tt
+    opened t (Ok _) o = refl
+    opened t (Err _) o =
+        let f = fits in
+        let n = length-map values class in
+        let board = sh.board in
+        let book = sh.book in
+        absurd (o.1 (omega arith, omega arith, omega arith, omega arith, omega arith))
 
     pub begin_runs : (t : State V) → T.Lawful (meant x.now) → Opens class s t (meant x.now) values cap (Ok tt) →
         (m : Ledger) × Agrees class t (in_stage (Running x) h) m × Begins l (meant x.now) (map class values) cap (m, begun)

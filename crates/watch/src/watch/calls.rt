@@ -66,10 +66,8 @@ impl<'a, K: Kind> Watch<'a, K> {
         ensures { Turns self.old (λ l r. Begins l (meant table.now) (map K.Kind.class constants.now) cap r) (began result) self.new }
     {
         self.may_begin(constants.len(), table.constants().len(), cap)?;
-        // Kept a `let .. else`: by `or` and `?` it stays open that a refused begin changes nothing (goal `returns-in_err-or`).
-        let Ok(()) = self.rows.open(table, constants, cap) else {
-            return Err(self.refuse(WatchReason::SmallBoard));
-        };
+        let small = self.refuse(WatchReason::SmallBoard);
+        self.rows.open(table, constants, cap).or(Err(small))?;
         self.held.stage = Stage::Running(table);
         Ok(())
     }

@@ -1,17 +1,31 @@
-use Rattle.std.proofs.Common.{length, vec_items, sym, refl, ap, ◌∙◌}
-use Rattle.std.proofs.lemmas.List.{length-map}
+use Rattle.std.proofs.Common.{◌≡◌, ℕ, length, vec_items, Ok, Err, sym, ap, ◌∙◌, subst, arith}
+use Rattle.std.specs.Result.{result_or}
 use Rattle.engine.specs.Meant.{meant}
-use Rattle.engine.specs.Views.{number}
+use Rattle.engine.specs.Opening.{Opens}
 use Rattle.engine.proofs.Properties.{lawful}
-use Rattle.watch.proofs.Beginning.{reasons_same, begin_runs}
+use Rattle.watch.proofs.Beginning.{begin_free, begin_runs, opened}
 use Rattle.watch.proofs.watch.Watch.begin.Goals as goal
+
+pub returns-in_err-or : goal.returns-in_err-or
+returns-in_err-or g c l sh =
+    let w = c.args.self.now in
+    let x = c.args.table in
+    let values = c.args.constants.now in
+    let class = g.K.Kind.class in
+    let free = begin_free class w.rows.state w.held l sh x values c.args.cap (length c.constants.result.now) (ap length c.constants.ensures) c.in_ok-may_begin.ensures in
+    let ok = opened class w.rows.state w.held l sh x values c.args.cap free c.open.new.self.state c.open.result c.open.ensures in
+    let not : Err c.in_err-or.field-0.0 ≡ Ok tt = sym c.in_err-or.was ∙ (c.or.ensures ∙ ap (λ r. result_or r (Err c.refuse-small.result)) ok) in
+    let z : ◌≡◌ {A = ℕ} 0 1 = cc in
+    absurd (omega arith)
 
 pub returns : goal.returns
 returns g c l sh =
     let w = c.args.self.now in
-    let t = c.args.table.now in
-    let P = meant t in
-    let e = reasons_same g.K.Kind.class w.rows.state w.held l sh P c.args.constants.now (length c.args.constants.now) (length c.constants.result.now) c.args.cap refl (ap length c.constants.ensures ∙ sym (length-map (vec_items t.constants) number)) in
-    begin_runs g.K.Kind.class w.rows.state w.held l sh c.args.table c.args.constants.now c.args.cap (sym e ∙ c.in_ok-may_begin.ensures) c.open.new.self.state
-    (lawful (vec_items t.methods) (vec_items t.constants) (vec_items t.statements) t.lawful)
-    c.in-Ok.ensures
+    let x = c.args.table in
+    let t = x.now in
+    let values = c.args.constants.now in
+    let class = g.K.Kind.class in
+    let free = begin_free class w.rows.state w.held l sh x values c.args.cap (length c.constants.result.now) (ap length c.constants.ensures) c.in_ok-may_begin.ensures in
+    let ok = opened class w.rows.state w.held l sh x values c.args.cap free c.open.new.self.state c.open.result c.open.ensures in
+    begin_runs class w.rows.state w.held l sh x values c.args.cap free c.open.new.self.state (lawful (vec_items t.methods) (vec_items t.constants) (vec_items t.statements) t.lawful)
+    (subst (Opens class w.rows.state c.open.new.self.state (meant t) values c.args.cap) ok c.open.ensures)
