@@ -8,13 +8,15 @@ use Rattle.topl.specs.Deciding.{any_error, count}
 use Rattle.topl.specs.Theorems.{StepsTo, ErrsBy}
 use Rattle.engine.specs.declared.entry.Entry.{Entry}
 use Rattle.engine.specs.declared.scene.Scene.{Scene}
+use Rattle.engine.specs.declared.scene.Position.{Position}
+use Rattle.engine.specs.declared.configuration.Entered.{Entered}
 use Rattle.engine.specs.declared.grid.Grid as G
 use Rattle.engine.specs.declared.front.Decision.{Decision}
 use Rattle.engine.specs.declared.front.Decision.TheVariants.{Breaks, Spills, Overfills}
 use Rattle.engine.specs.Modes.{mode_of}
 use Rattle.engine.specs.Views.{statement, Seen}
 use Rattle.engine.specs.Trails.{steps_to, steps_by, room_of}
-use Rattle.engine.specs.Fronts.{row_at, count_at, entries_at, Grid, Others, Spares}
+use Rattle.engine.specs.Fronts.{row_at, count_at, entries_at, stands_for, Grid, Others, Spares}
 use Rattle.engine.specs.Grids.{grid_of}
 
 -- the statements of a table, and the events of a world from the scene's base on, as a scene has them
@@ -71,6 +73,18 @@ shown_entry (Ok _) = Ok tt
 shown_entry (Err (Breaks b)) = Err b.last
 shown_entry (Err Spills) = Ok tt
 shown_entry (Err Overfills) = Ok tt
+
+-- what fills a position keeps, whatever the events are
+abbrev pub Keeps : {V : Type 0} → Position V → G.Grid V → G.Grid V → Result (Unit {0}) Entry → Type 0
+Keeps x g h r = Safe (x.number % 5) g h r
+
+-- these come to a position
+abbrev pub ComesBy : {V : Type 0} → (V → Class) → Position V → T.Table → Registers → World → G.Grid V → G.Grid V → List Configuration → Result (Unit {0}) Entry → Type 0
+ComesBy class x P k w g h added r = Brings class (x.number % 5) P k w x.number g h added r
+
+-- a configuration is reached at the first position of the scene by the steps of its entry
+abbrev pub ReachedBy : {V : Type 0} → (V → Class) → Position V → T.Table → Registers → World → G.Grid V → Entered V → Type 0
+ReachedBy class x P k w g at = Reach P k w x.scene.now.base (stands_for class at.configuration) (steps_to (vec_items g.book.entries) at.entry)
 
 -- Position p can be filled: the positions before it stand as they are now, and p as it was before, with no `error`; all of them are reached by their
 -- entries.

@@ -1,7 +1,13 @@
 -- What a grid of the code has.
-use Rattle.std.specs.Prelude.{vec_items}
+use Rattle.std.specs.Prelude.{ℕ, List, vec_items}
 use Rattle.engine.specs.declared.grid.Grid as G
-use Rattle.engine.specs.Fronts.{Grid, grid}
+use Rattle.topl.specs.Lists.{Class}
+use Rattle.topl.specs.Runs.{Configuration}
+use Rattle.engine.specs.Fronts.{Grid, grid, row_at}
 
 abbrev pub grid_of : {V : Type 0} → G.Grid V → Grid V
 grid_of g = grid g.front (vec_items g.board) (vec_items g.book.entries) g.book.used
+
+-- the configurations at position k of the five
+abbrev pub row_of : {V : Type 0} → (V → Class) → G.Grid V → ℕ → List Configuration
+row_of class g k = row_at class g.cap (grid_of g) k

@@ -8,7 +8,8 @@ use crate::entry::Entry;
 pub const MOST_ENTRIES: usize = 16_384;
 
 // The first `used` entries count. Entry 0 is the start; every other comes after its parent.
-// Kept a count of the entries in use, which name their parents by number: the vector is handed over at its full length, and nothing is allocated or freed afterwards.
+// Kept a count of the entries in use, which name their parents by number: the vector is handed over at its full length, and nothing is allocated or
+// freed afterwards.
 #[derive(Drop)]
 pub struct Book {
     pub(crate) entries: Vec<Entry>,
@@ -42,7 +43,8 @@ impl Book {
     }
 
     // One entry more, if there is room: its number; else its parent's.
-    // Kept a number in both cases, not an Option: its one caller gives the front an entry either way, and a position that the book has no room for is refused later.
+    // Kept a number in both cases, not an Option: its one caller gives the front an entry either way, and a position that the book has no room for is
+    // refused later.
     pub(crate) fn enter(&mut self, from: Entry) -> u16
         requires { from.parent < self.old.used }
         ensures { Enters self.old.entries.items self.old.used from self.new.entries.items self.new.used result }
@@ -77,7 +79,7 @@ impl Book {
         requires { (0 < entry → entry < self.now.used) × (length (steps_to self.now.entries.items entry) ≤ length page.old) }
         ensures { page.new ≡ steps_to self.now.entries.items entry ++ drop (length (steps_to self.now.entries.items entry)) page.old }
     {
-        // Kept a counted walk: once a page was written through `iter_mut`, the checker knows its length and not its elements, so its steps could not be promised.
+        // Kept a counted walk: after a write through `iter_mut` the checker knows a page's length and not its elements, so its steps could not be promised.
         let mut at = entry;
         let mut left = self.depth(entry);
         while at != 0 {

@@ -10,8 +10,8 @@ ghost use Rattle.engine.specs.Modes.{mode_of};
 ghost use Rattle.engine.specs.Views.{matcher, statement, stated, Seen};
 ghost use Rattle.engine.specs.Trails.{steps_to, steps_by};
 ghost use Rattle.engine.specs.Fronts.{stands_for, row_at};
-ghost use Rattle.engine.specs.Grids.{grid_of};
-ghost use Rattle.engine.specs.Fills.{Ready, Fills, Watched, Safe, Tracks, Brings, shown_entry};
+ghost use Rattle.engine.specs.Grids.{grid_of, row_of};
+ghost use Rattle.engine.specs.Fills.{Ready, Fills, Watched, Safe, Keeps, Tracks, Brings, ComesBy, ReachedBy, shown_entry};
 
 use crate::attempt::attempt_statement;
 use crate::configuration::{Configuration, Entered};
@@ -47,7 +47,7 @@ fn written_at(i: usize, t: &Statement) -> Numbered<'_>
 }
 
 // The statement start -> start: *, by its matcher.
-// Kept the matcher as a parameter: as a constant the checker refuses it (`unsupported-static: in a constant, a borrow of a value that holds a struct with a ghost field ..`).
+// Kept the matcher as a parameter: as a constant the checker refuses it (`unsupported-static`: a borrow of a value that holds a struct with a ghost field).
 fn implied_by(any: &[Matcher; 1]) -> Numbered<'_>
     ensures number { result.number ≡ 65 }
     ensures stands { any.now ≡ Any ∷ [] → stated result ≡ implied }
@@ -128,11 +128,11 @@ fn step_statement<K: Kind>(
     at: &Entered<K::Value>,
 ) -> Result<(), Entry>
     requires { at.now.entry < grid.old.book.used }
-    ensures safe { Safe (position.now.number % 5) grid.old grid.new result }
+    ensures safe { Keeps position.now grid.old grid.new result }
     ensures brings { (P : TheTable) (k : Registers) (w : World) → Watched K.Kind.class position.now.scene.now P w
         → (t.now.number, stated t.now) ∈ numbered P
-        → Reach P k w position.now.scene.now.base (stands_for K.Kind.class at.now.configuration) (steps_to grid.old.book.entries.items at.now.entry)
-        → Brings K.Kind.class (position.now.number % 5) P k w position.now.number grid.old grid.new
+        → ReachedBy K.Kind.class position.now P k w grid.old at.now
+        → ComesBy K.Kind.class position.now P k w grid.old grid.new
         (landed position.now.number (lands w position.now.scene.now.base (stands_for K.Kind.class at.now.configuration) (t.now.number, stated t.now))) result }
 {
     let scene = position.scene;
@@ -163,10 +163,10 @@ fn step_skip<K: Kind>(
     at: &Entered<K::Value>,
 ) -> Result<(), Entry>
     requires { at.now.entry < grid.old.book.used }
-    ensures safe { Safe (position.now.number % 5) grid.old grid.new result }
+    ensures safe { Keeps position.now grid.old grid.new result }
     ensures brings { (P : TheTable) (k : Registers) (w : World) → Watched K.Kind.class position.now.scene.now P w
-        → Reach P k w position.now.scene.now.base (stands_for K.Kind.class at.now.configuration) (steps_to grid.old.book.entries.items at.now.entry)
-        → Brings K.Kind.class (position.now.number % 5) P k w position.now.number grid.old grid.new
+        → ReachedBy K.Kind.class position.now P k w grid.old at.now
+        → ComesBy K.Kind.class position.now P k w grid.old grid.new
         (landed position.now.number (skips P w position.now.scene.now.base (stands_for K.Kind.class at.now.configuration))) result }
 {
     let scene = position.scene;
@@ -190,10 +190,10 @@ fn step_configuration<K: Kind>(
     at: &Entered<K::Value>,
 ) -> Result<(), Entry>
     requires { at.now.entry < grid.old.book.used }
-    ensures safe { Safe (position.now.number % 5) grid.old grid.new result }
+    ensures safe { Keeps position.now grid.old grid.new result }
     ensures brings { (P : TheTable) (k : Registers) (w : World) → Watched K.Kind.class position.now.scene.now P w
-        → Reach P k w position.now.scene.now.base (stands_for K.Kind.class at.now.configuration) (steps_to grid.old.book.entries.items at.now.entry)
-        → Brings K.Kind.class (position.now.number % 5) P k w position.now.number grid.old grid.new
+        → ReachedBy K.Kind.class position.now P k w grid.old at.now
+        → ComesBy K.Kind.class position.now P k w grid.old grid.new
         (landed position.now.number (moves P w position.now.scene.now.base (stands_for K.Kind.class at.now.configuration))) result }
 {
     step_skip::<K>(grid, position, at)?;
@@ -209,11 +209,11 @@ fn step_row<K: Kind>(
     position: &Position<'_, K::Value>,
 ) -> Result<(), Entry>
     requires { position.now.scene.now.base < position.now.number }
-    ensures safe { Safe (position.now.number % 5) grid.old grid.new result }
+    ensures safe { Keeps position.now grid.old grid.new result }
     ensures brings { (P : TheTable) (k : Registers) (w : World) → Watched K.Kind.class position.now.scene.now P w
         → Tracks K.Kind.class P k w position.now.scene.now.base grid.old (position.now.scene.now.base % 5)
-        → Brings K.Kind.class (position.now.number % 5) P k w position.now.number grid.old grid.new
-        (each (λ c. landed position.now.number (moves P w position.now.scene.now.base c)) (row_at K.Kind.class grid.old.cap (grid_of grid.old) (position.now.scene.now.base % 5))) result }
+        → ComesBy K.Kind.class position.now P k w grid.old grid.new
+        (each (λ c. landed position.now.number (moves P w position.now.scene.now.base c)) (row_of K.Kind.class grid.old (position.now.scene.now.base % 5))) result }
 {
     let source = Slot::of(position.scene.base);
     let count = grid.front.count_at(source);
@@ -230,11 +230,11 @@ fn step_rows<K: Kind>(
     grid: &mut Grid<K::Value>,
     position: &Position<'_, K::Value>,
 ) -> Result<(), Entry>
-    ensures safe { Safe (position.now.number % 5) grid.old grid.new result }
+    ensures safe { Keeps position.now grid.old grid.new result }
     ensures brings { (P : TheTable) (k : Registers) (w : World) → Watched K.Kind.class position.now.scene.now P w
         → ((q : ℕ) → position.now.scene.now.base ≤ q → q < position.now.number → Tracks K.Kind.class P k w q grid.old (q % 5))
-        → Brings K.Kind.class (position.now.number % 5) P k w position.now.number grid.old grid.new
-        (incoming P w (λ q. row_at K.Kind.class grid.old.cap (grid_of grid.old) (q % 5)) position.now.number position.now.scene.now.base (position.now.number - position.now.scene.now.base)) result }
+        → ComesBy K.Kind.class position.now P k w grid.old grid.new
+        (incoming P w (λ q. row_of K.Kind.class grid.old (q % 5)) position.now.number position.now.scene.now.base (position.now.number - position.now.scene.now.base)) result }
 {
     let number = position.number;
     for q in position.scene.base..number {
@@ -253,12 +253,13 @@ pub(crate) fn fill_position<K: Kind>(
     grid: &mut Grid<K::Value>,
     position: &Position<'_, K::Value>,
 ) -> Result<(), Decision>
-    ensures safe { Safe (position.now.number % 5) grid.old grid.new (shown_entry result) }
+    ensures safe { Keeps position.now grid.old grid.new (shown_entry result) }
     ensures fills { (P : TheTable) (k : Registers) (L : List Happening) (w : World) → Watched K.Kind.class position.now.scene.now P w
         → Ready K.Kind.class grid.old.cap (grid_of grid.old) position.now.scene.now.base position.now.number P k L w
         → Fills K.Kind.class grid.old.cap (grid_of grid.old) (grid_of grid.new) position.now.number P k w result }
 {
     grid.front.spilled = false;
+    // Kept an `if let`: the closure of `map_err` would need its promise written out, which is longer.
     if let Err(last) = step_rows::<K>(grid, position) {
         let position = position.number;
         return Err(Decision::Breaks(Breach { position, last }));

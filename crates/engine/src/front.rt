@@ -1,4 +1,4 @@
-// The states and the book entries of the configurations at five positions.
+// The states and the book entries of the configurations at five positions; and what the deciding rule decides.
 ghost use Rattle.std.specs.Prelude.{◌≡◌, ℕ, ◌≤◌, length, slice_index};
 
 use crate::entry::Entry;

@@ -5,7 +5,7 @@ ghost use Rattle.topl.specs.Runs.{Registers, World};
 ghost use Rattle.engine.specs.declared.front.Breach as B;
 ghost use Rattle.engine.specs.declared.front.Decision.TheVariants.{Breaks};
 ghost use Rattle.engine.specs.Grids.{grid_of};
-ghost use Rattle.engine.specs.Fills.{Ready, Safe, Watched, shown_entry};
+ghost use Rattle.engine.specs.Fills.{Ready, Keeps, Watched, shown_entry};
 ghost use Rattle.engine.specs.Judging.{Balance, Judged, Start, Decided};
 
 use crate::fill::fill_position;
@@ -20,7 +20,7 @@ fn judge_position<K: Kind>(
     grid: &mut Grid<K::Value>,
     position: &Position<'_, K::Value>,
 ) -> Result<(), Decision>
-    ensures safe { Safe (position.now.number % 5) grid.old grid.new (shown_entry result) }
+    ensures safe { Keeps position.now grid.old grid.new (shown_entry result) }
     ensures rules { (P : TheTable) (k : Registers) (L : List Happening) (w : World) → Watched K.Kind.class position.now.scene.now P w
         → Ready K.Kind.class grid.old.cap (grid_of grid.old) position.now.scene.now.base position.now.number P k L w
         → Balance grid.old.book.used position.now.number P k L w

@@ -2,8 +2,8 @@
 ghost use Rattle.std.specs.Prelude.{◌≡◌, ℕ, ◌+◌, ◌*◌, ◌<◌, ◌≤◌, [], length, take, drop, slice_index, slice_index_or, vec_len};
 ghost use Rattle.topl.specs.Lists.{holds};
 ghost use Rattle.topl.specs.Runs.{alikeᶜ, first_configuration};
-ghost use Rattle.engine.specs.Fronts.{stands_for, row, stored, row_at, count_at, entries_at, Arrives};
-ghost use Rattle.engine.specs.Grids.{grid_of};
+ghost use Rattle.engine.specs.Fronts.{stands_for, row, stored, count_at, entries_at, Arrives};
+ghost use Rattle.engine.specs.Grids.{grid_of, row_of};
 
 use crate::configuration::{Configuration, Entered};
 use crate::entry::Entry;
@@ -17,6 +17,7 @@ pub(crate) fn find<K: Kind>(states: &[u8], values: &[K::Value], c: &Configuratio
     ensures { result ≡ holds alikeᶜ (row K.Kind.class states.now values.now) (stands_for K.Kind.class c.now) }
 {
     // Kept a nested search left by a label: a fixed form of the project, since the first register that differs ends the look at its configuration alone.
+    // Kept an index for the values: they are more than eight for each state, and `chunks_exact` would need a proof of which chunk is whose.
     'configurations: for (i, s) in states.iter().enumerate() {
         if *s != c.state {
             continue 'configurations;
@@ -32,12 +33,11 @@ pub(crate) fn find<K: Kind>(states: &[u8], values: &[K::Value], c: &Configuratio
 }
 
 // Where a position's part of the board starts.
-pub(crate) fn start(cap: usize, slot: Slot) -> usize
-    requires { cap ≤ 64 }
-    ensures at { result ≡ slot.at * (8 * cap) }
-    ensures within { result + 8 * cap ≤ 40 * cap }
+fn start<V>(grid: &Grid<V>, slot: Slot) -> usize
+    ensures at { result ≡ slot.at * (8 * grid.now.cap) }
+    ensures within { result + 8 * grid.now.cap ≤ 40 * grid.now.cap }
 {
-    slot.at * (8 * cap)
+    slot.at * (8 * grid.cap)
 }
 
 // A position's part of the board.
@@ -45,7 +45,7 @@ fn part_of<V: Copy>(grid: &Grid<V>, slot: Slot) -> &[V]
     ensures is { result.now ≡ take (8 * grid.now.cap) (drop (slot.at * (8 * grid.now.cap)) grid.now.board.items) }
     ensures long { length result.now ≡ 8 * grid.now.cap }
 {
-    let from = start(grid.cap, slot);
+    let from = start(grid, slot);
     let to = from + 8 * grid.cap;
     &grid.board[from..to]
 }
@@ -73,7 +73,7 @@ pub(crate) fn put_configuration<V: Copy>(
     ensures board { vec_len grid.new.board ≡ vec_len grid.old.board }
     ensures others { (grid.new.front ≡ grid.old.front) × (grid.new.book ≡ grid.old.book) × (grid.new.cap ≡ grid.old.cap) }
 {
-    let from = start(grid.cap, slot);
+    let from = start(grid, slot);
     let to = from + 8 * grid.cap;
     let part = &mut grid.board[from..to];
     write_at(part, 8 * i, registers);
@@ -85,7 +85,7 @@ fn registers_at<K: Kind>(grid: &Grid<K::Value>, slot: Slot, i: usize) -> [K::Val
     ensures are { result ≡ take 8 (drop (8 * i) (drop (slot.at * (8 * grid.now.cap)) grid.now.board.items)) }
     ensures eight { length result ≡ 8 }
 {
-    let from = start(grid.cap, slot) + 8 * i;
+    let from = start(grid, slot) + 8 * i;
     let to = from + 8;
     let mut held = [K::nothing(); 8];
     held.copy_from_slice(&grid.board[from..to]);
@@ -95,17 +95,14 @@ fn registers_at<K: Kind>(grid: &Grid<K::Value>, slot: Slot, i: usize) -> [K::Val
 // Configuration i of a position, with its entry.
 pub(crate) fn entered_at<K: Kind>(grid: &Grid<K::Value>, slot: Slot, i: usize) -> Entered<K::Value>
     requires { i < count_at grid.now.front slot.at }
-    ensures stands { stands_for K.Kind.class result.configuration ≡ slice_index_or (row_at K.Kind.class grid.now.cap (grid_of grid.now) slot.at) i (first_configuration []) }
+    ensures stands { stands_for K.Kind.class result.configuration ≡ slice_index_or (row_of K.Kind.class grid.now slot.at) i (first_configuration []) }
     ensures entry { result.entry ≡ slice_index (entries_at grid.now.front slot.at) i }
     ensures known { result.entry < grid.now.book.used }
 {
     let mark = grid.front.mark_at(slot, i);
     let registers = registers_at::<K>(grid, slot, i);
     Entered {
-        configuration: Configuration {
-            state: mark.state,
-            registers,
-        },
+        configuration: Configuration::new(mark.state, registers),
         entry: mark.entry,
     }
 }

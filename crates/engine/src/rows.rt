@@ -86,7 +86,7 @@ impl<K: Kind> Rows<K> {
         Ok(())
     }
 
-    // One event more after so many judged ones: the rows of the positions from judged - 2 to judged + 1 are filled in order.
+    // One event more after so many judged ones: the rows of the positions from judged - 2 to judged + 1 are filled in order, by moves from judged - 3 on.
     pub fn take_event(
         &mut self,
         table: &Table,

@@ -2,7 +2,8 @@
 ghost use Rattle.std.specs.Prelude.{◌≡◌, ◌≤◌, length};
 
 // An event as the moves see it: its id, and its six places.
-// Kept no ghost field that says the six: with one `Clone` cannot be derived, and written by hand it would be longer than the one proof that asks for the six.
+// Kept no ghost field that says the six: over a type parameter `Clone` cannot be derived beside one, and written by hand it would be longer than the one
+// proof that asks for the six.
 #[derive(Clone, Copy)]
 pub struct Witnessed<V> {
     pub(crate) id: u32,

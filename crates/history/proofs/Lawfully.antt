@@ -52,7 +52,7 @@ throughout m n (t ∷ h) (truth, (o, turns, w)) l hs =
 module _ {V : Type 0} (class : V → Class) where
   -- the code's tables are lawful by their type
   hands : (c : Call V) → Hands (call class c)
-  hands (Begin t ks cap) = lawful (vec_items t.now.methods) (vec_items t.now.constants) (vec_items t.now.statements) t.now.lawful
+  hands (Begin t ks cap) = lawful t.now
   hands (Feed id vs) = tt
   hands (Draw k) = tt
   hands Close = tt

@@ -10,7 +10,7 @@ pub enum Standing {
 }
 
 // The phase, the count of judged events and, if it is broken, the position.
-// Kept the position beside the phase: `Phase` is the bare enum that is printed by its name, so it can carry none.
+// Kept the position beside the phase: `Phase` is also what the ledger keeps, whose position stands beside it, and what is printed by its name alone.
 #[derive(Clone, Copy)]
 pub struct Verdict {
     pub phase: Phase,

@@ -27,5 +27,5 @@ returns g c l sh =
     let class = g.K.Kind.class in
     let free = begin_free class w.rows.state w.held l sh x values c.args.cap (length c.constants.result.now) (ap length c.constants.ensures) c.in_ok-may_begin.ensures in
     let ok = opened class w.rows.state w.held l sh x values c.args.cap free c.open.new.self.state c.open.result c.open.ensures in
-    begin_runs class w.rows.state w.held l sh x values c.args.cap free c.open.new.self.state (lawful (vec_items t.methods) (vec_items t.constants) (vec_items t.statements) t.lawful)
+    begin_runs class w.rows.state w.held l sh x values c.args.cap free c.open.new.self.state (lawful t)
     (subst (Opens class w.rows.state c.open.new.self.state (meant t) values c.args.cap) ok c.open.ensures)
