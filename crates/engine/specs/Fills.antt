@@ -114,3 +114,10 @@ Fills class cap g h p P k w (Ok _) = Stood class cap g h p P k w
 Fills class cap g h p P k w (Err (Breaks b)) = (b.position ≡ p) × (any_error (reached P k w p) ≡ true) × ErrsBy P k w p (steps_by h.book b.last)
 Fills class cap g h p P k w (Err Spills) = (any_error (reached P k w p) ≡ false) × (cap < count P k w p)
 Fills class cap g h p P k w (Err Overfills) = ⊥
+
+-- the same of the grids of the code, and a position of a scene
+abbrev pub ReadyFor : {V : Type 0} → (V → Class) → Position V → T.Table → Registers → List T.Event → World → G.Grid V → Type 0
+ReadyFor class x P k L w g = Ready class g.cap (grid_of g) x.scene.now.base x.number P k L w
+
+abbrev pub FilledBy : {V : Type 0} → (V → Class) → Position V → T.Table → Registers → World → G.Grid V → G.Grid V → Result (Unit {0}) Decision → Type 0
+FilledBy class x P k w g h r = Fills class g.cap (grid_of g) (grid_of h) x.number P k w r

@@ -7,10 +7,13 @@ use Rattle.topl.specs.Rows.{Stands}
 use Rattle.topl.specs.Deciding as D
 use Rattle.topl.specs.Theorems.{StepsTo, Resumes, ErrsBy}
 use Rattle.engine.specs.declared.entry.Entry.{Entry}
+use Rattle.engine.specs.declared.grid.Grid as G
+use Rattle.engine.specs.declared.scene.Position.{Position}
 use Rattle.engine.specs.declared.front.Decision.{Decision}
 use Rattle.engine.specs.declared.front.Decision.TheVariants.{Breaks, Spills, Overfills}
 use Rattle.engine.specs.Trails.{steps_to, steps_by, room_of}
 use Rattle.engine.specs.Fronts.{row_at, Grid, Others}
+use Rattle.engine.specs.Grids.{grid_of}
 use Rattle.engine.specs.Fills.{Tracked}
 
 -- the theory's ruling
@@ -64,3 +67,13 @@ pub record Decided {V : Type 0} (class : V → Class) (cap : ℕ) (g h : Grid V)
   pub held : r ≡ Ok tt → (q : ℕ) → base ≤ q → q ≤ last → Held class cap h P k w q
   pub total : r ≡ Ok tt → h.used ≡ D.sum (suc last) (D.count P k w)
   pub tracked : r ≡ Ok tt → (q : ℕ) → base ≤ q → q ≤ last → Tracked class cap P k w q h (q % 5)
+
+-- the same of the grids of the code
+abbrev pub JudgedAt : {V : Type 0} → (V → Class) → Position V → T.Table → Registers → List T.Event → World → G.Grid V → G.Grid V → Result (Unit {0}) Decision → Type 0
+JudgedAt class x P k L w g h r = Judged class g.cap (grid_of g) (grid_of h) x.number P k L w r
+
+abbrev pub StartsAt : {V : Type 0} → (V → Class) → ℕ → ℕ → T.Table → Registers → List T.Event → World → G.Grid V → Type 0
+StartsAt class base last P k L w g = Start class g.cap (grid_of g) base last P k L w
+
+abbrev pub DecidedBy : {V : Type 0} → (V → Class) → ℕ → ℕ → T.Table → Registers → List T.Event → World → G.Grid V → G.Grid V → Result (Unit {0}) Decision → Type 0
+DecidedBy class base last P k L w g h r = Decided class g.cap (grid_of g) (grid_of h) base last P k L w r

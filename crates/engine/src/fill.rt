@@ -9,9 +9,9 @@ ghost use Rattle.engine.specs.declared.table.Matcher.TheVariants.{Any};
 ghost use Rattle.engine.specs.Modes.{mode_of};
 ghost use Rattle.engine.specs.Views.{matcher, statement, stated, Seen};
 ghost use Rattle.engine.specs.Trails.{steps_to, steps_by};
-ghost use Rattle.engine.specs.Fronts.{stands_for, row_at};
-ghost use Rattle.engine.specs.Grids.{grid_of, row_of};
-ghost use Rattle.engine.specs.Fills.{Ready, Fills, Watched, Safe, Keeps, Tracks, Brings, ComesBy, ReachedBy, shown_entry};
+ghost use Rattle.engine.specs.Fronts.{stands_for};
+ghost use Rattle.engine.specs.Grids.{row_of};
+ghost use Rattle.engine.specs.Fills.{ReadyFor, FilledBy, Watched, Safe, Keeps, Tracks, Brings, ComesBy, ReachedBy, shown_entry};
 
 use crate::attempt::attempt_statement;
 use crate::configuration::{Configuration, Entered};
@@ -255,8 +255,8 @@ pub(crate) fn fill_position<K: Kind>(
 ) -> Result<(), Decision>
     ensures safe { Keeps position.now grid.old grid.new (shown_entry result) }
     ensures fills { (P : TheTable) (k : Registers) (L : List Happening) (w : World) → Watched K.Kind.class position.now.scene.now P w
-        → Ready K.Kind.class grid.old.cap (grid_of grid.old) position.now.scene.now.base position.now.number P k L w
-        → Fills K.Kind.class grid.old.cap (grid_of grid.old) (grid_of grid.new) position.now.number P k w result }
+        → ReadyFor K.Kind.class position.now P k L w grid.old
+        → FilledBy K.Kind.class position.now P k w grid.old grid.new result }
 {
     grid.front.spilled = false;
     // Kept an `if let`: the closure of `map_err` would need its promise written out, which is longer.

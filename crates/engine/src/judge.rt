@@ -4,9 +4,8 @@ ghost use Rattle.topl.specs.Table.{Event as Happening, Table as TheTable};
 ghost use Rattle.topl.specs.Runs.{Registers, World};
 ghost use Rattle.engine.specs.declared.front.Breach as B;
 ghost use Rattle.engine.specs.declared.front.Decision.TheVariants.{Breaks};
-ghost use Rattle.engine.specs.Grids.{grid_of};
-ghost use Rattle.engine.specs.Fills.{Ready, Keeps, Watched, shown_entry};
-ghost use Rattle.engine.specs.Judging.{Balance, Judged, Start, Decided};
+ghost use Rattle.engine.specs.Fills.{ReadyFor, Keeps, Watched, shown_entry};
+ghost use Rattle.engine.specs.Judging.{Balance, JudgedAt, StartsAt, DecidedBy};
 
 use crate::fill::fill_position;
 use crate::front::Decision;
@@ -22,9 +21,9 @@ fn judge_position<K: Kind>(
 ) -> Result<(), Decision>
     ensures safe { Keeps position.now grid.old grid.new (shown_entry result) }
     ensures rules { (P : TheTable) (k : Registers) (L : List Happening) (w : World) → Watched K.Kind.class position.now.scene.now P w
-        → Ready K.Kind.class grid.old.cap (grid_of grid.old) position.now.scene.now.base position.now.number P k L w
+        → ReadyFor K.Kind.class position.now P k L w grid.old
         → Balance grid.old.book.used position.now.number P k L w
-        → Judged K.Kind.class grid.old.cap (grid_of grid.old) (grid_of grid.new) position.now.number P k L w result }
+        → JudgedAt K.Kind.class position.now P k L w grid.old grid.new result }
 {
     let slot = Slot::of(position.number);
     let used = grid.book.used;
@@ -48,8 +47,8 @@ pub(crate) fn judge<K: Kind>(
     ensures long { length grid.new.book.entries.items ≡ length grid.old.book.entries.items }
     ensures known { (b : B.Breach) → result ≡ Err (Breaks b) → b.last.parent < grid.new.book.used }
     ensures decides { (P : TheTable) (k : Registers) (L : List Happening) (w : World) → Watched K.Kind.class scene.now P w
-        → Start K.Kind.class grid.old.cap (grid_of grid.old) scene.now.base (scene.now.base + length scene.now.events.now) P k L w
-        → Decided K.Kind.class grid.old.cap (grid_of grid.old) (grid_of grid.new) scene.now.base (scene.now.base + length scene.now.events.now) P k L w result }
+        → StartsAt K.Kind.class scene.now.base (scene.now.base + length scene.now.events.now) P k L w grid.old
+        → DecidedBy K.Kind.class scene.now.base (scene.now.base + length scene.now.events.now) P k L w grid.old grid.new result }
 {
     let last = scene.base + scene.events.len();
     for number in scene.base..=last {

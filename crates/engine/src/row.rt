@@ -2,8 +2,8 @@
 ghost use Rattle.std.specs.Prelude.{◌≡◌, ℕ, ◌+◌, ◌*◌, ◌<◌, ◌≤◌, [], length, take, drop, slice_index, slice_index_or, vec_len};
 ghost use Rattle.topl.specs.Lists.{holds};
 ghost use Rattle.topl.specs.Runs.{alikeᶜ, first_configuration};
-ghost use Rattle.engine.specs.Fronts.{stands_for, row, stored, count_at, entries_at, Arrives};
-ghost use Rattle.engine.specs.Grids.{grid_of, row_of};
+ghost use Rattle.engine.specs.Fronts.{stands_for, row, stored, count_at, entries_at};
+ghost use Rattle.engine.specs.Grids.{row_of, ArrivesAt};
 
 use crate::configuration::{Configuration, Entered};
 use crate::entry::Entry;
@@ -119,7 +119,7 @@ pub(crate) fn arrive<K: Kind>(
     c: &Configuration<K::Value>,
 ) -> Result<(), Crowded>
     requires { from.parent < grid.old.book.used }
-    ensures arrives { Arrives K.Kind.class grid.old.cap (grid_of grid.old) (grid_of grid.new) slot.at from (stands_for K.Kind.class c.now) result }
+    ensures arrives { ArrivesAt K.Kind.class slot.at from (stands_for K.Kind.class c.now) grid.old grid.new result }
     ensures cap { grid.new.cap ≡ grid.old.cap }
     ensures board { vec_len grid.new.board ≡ vec_len grid.old.board }
 {

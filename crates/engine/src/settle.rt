@@ -4,8 +4,7 @@ ghost use Rattle.topl.specs.Table.{Event as Happening};
 ghost use Rattle.topl.specs.Runs.{Registers, World};
 ghost use Rattle.engine.specs.Meant.{meant};
 ghost use Rattle.engine.specs.Modes.{mode_of};
-ghost use Rattle.engine.specs.Grids.{grid_of};
-ghost use Rattle.engine.specs.Judging.{Start, Decided};
+ghost use Rattle.engine.specs.Judging.{StartsAt, DecidedBy};
 ghost use Rattle.engine.specs.Windows.{Remembers};
 ghost use Rattle.engine.specs.States.{Stays};
 
@@ -29,8 +28,8 @@ pub(crate) fn settle<K: Kind>(
     ensures window { s.new.window ≡ s.old.window }
     ensures decides { (k : Registers) (L : List Happening) (w : World) → w.mode ≡ mode_of mode
         → Remembers K.Kind.class s.old.window (drop base w.events)
-        → Start K.Kind.class s.old.grid.cap (grid_of s.old.grid) base (base + s.old.window.seen) (meant table.now) k L w
-        → Decided K.Kind.class s.old.grid.cap (grid_of s.old.grid) (grid_of s.new.grid) base (base + s.old.window.seen) (meant table.now) k L w result }
+        → StartsAt K.Kind.class base (base + s.old.window.seen) (meant table.now) k L w s.old.grid
+        → DecidedBy K.Kind.class base (base + s.old.window.seen) (meant table.now) k L w s.old.grid s.new.grid result }
 {
     let window = &s.window;
     let seen = window.seen;

@@ -38,7 +38,8 @@ pub enum Answer {
 }
 
 // What a begin is answered.
-// Kept an impl for each kind of result, though all three refuse alike: one for any `T: Into<Answer>` would stand on three more, for `()`, `Standing` and `Option<Standing>`.
+// Kept an impl for each kind of result, though all three refuse alike: one for any `T: Into<Answer>` would stand on three more, for `()`,
+// `Standing` and `Option<Standing>`.
 impl From<Result<(), Refusal>> for Answer {
     ghost use Rattle.history.specs.Calls.{answer};
 

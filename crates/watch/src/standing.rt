@@ -1,4 +1,4 @@
-// What a feed, a draw, a close and a verdict tell.
+// What a feed, a draw, a close and a verdict tell, and what is asked of the deciding rule.
 use kinds::phase::Phase;
 
 // How the judged events stand after a call that is not refused: nothing is decided yet, a run reaches `error` at the position, or none does.

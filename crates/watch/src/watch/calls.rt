@@ -66,6 +66,7 @@ impl<'a, K: Kind> Watch<'a, K> {
         ensures { Turns self.old (λ l r. Begins l (meant table.now) (map K.Kind.class constants.now) cap r) (began result) self.new }
     {
         self.may_begin(constants.len(), table.constants().len(), cap)?;
+        // The rows cannot refuse here: `may_begin` has tried all that they ask.
         let small = self.refuse(WatchReason::SmallBoard);
         self.rows.open(table, constants, cap).or(Err(small))?;
         self.held.stage = Stage::Running(table);
@@ -110,7 +111,7 @@ impl<'a, K: Kind> Watch<'a, K> {
         }
     }
 
-    // Sets the stage by the deciding rule's word.
+    // Sets the stage and the judged count by the deciding rule's word.
     fn turn(&mut self, ruling: Result<(), Decision>, asked: Asked) -> Result<Standing, Refusal>
         requires { phase_of self.old.held.stage ≡ Running }
         ensures { Turned self.old.held self.new.held ruling asked result × (self.new.rows ≡ self.old.rows) }
@@ -139,7 +140,8 @@ impl<'a, K: Kind> Watch<'a, K> {
     }
 
     // Where nothing decides, an event leaves the watch running, and at the end of the list the property is kept.
-    // Kept a match on the watch's own stage and the call, which changes the stage in place: a fixed form of the project; the pairs that cannot come are proved unreachable.
+    // Kept a match on the watch's own stage and the call, which changes the stage in place: a fixed form of the project; the pairs that cannot come
+    // are proved unreachable.
     fn go_on(&mut self, asked: Asked) -> Result<Standing, Refusal>
         requires { phase_of self.old.held.stage ≡ Running }
         ensures { (self.new.held ≡ in_stage (rests asked self.old.held.stage) self.old.held) × (result ≡ Ok (stands asked)) × (self.new.rows ≡ self.old.rows) }
