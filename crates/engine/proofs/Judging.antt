@@ -18,6 +18,7 @@ use Rattle.engine.specs.Fronts.{row_at, count_at, Grid, grid, Spares}
 use Rattle.engine.specs.Fills.{Ready, Stood, Grows, Fills, Fits, Tracked}
 use Rattle.engine.specs.Judging.{ruled, ShowsRun, Balance, Judged, Held, Start, Decided}
 use Rattle.engine.proofs.Fronts.{Room, length_row_at}
+use Rattle.engine.proofs.Cases.{never}
 use Rattle.engine.proofs.Fills.{tracked_kept}
 
 -- the entries before position p is filled
@@ -92,13 +93,13 @@ module _ (P : T.Table) (k : Registers) (cap book : ℕ) (before now : World) (p 
 
 -- what is decided is no going on
 ruled_stops : (d : Decision) → ruled (Err d) ≡ D.goes_on → ⊥
-ruled_stops (Breaks b) e = let z : ◌≡◌ {A = ℕ} 0 1 = cc in omega arith
-ruled_stops Spills e = let z : ◌≡◌ {A = ℕ} 0 1 = cc in omega arith
-ruled_stops Overfills e = let z : ◌≡◌ {A = ℕ} 0 1 = cc in omega arith
+ruled_stops (Breaks b) e = never cc
+ruled_stops Spills e = never cc
+ruled_stops Overfills e = never cc
 
 -- and no success
 decided_not : (d : Decision) → ◌≡◌ {A = Result (Unit {0}) Decision} (Err d) (Ok tt) → ⊥
-decided_not d e = let z : ◌≡◌ {A = ℕ} 0 1 = cc in omega arith
+decided_not d e = never cc
 
 -- a position at which something is decided
 pub judged_stops : {V : Type 0} (class : V → Class) (cap : ℕ) (g h : Grid V) (p : ℕ) (P : T.Table) (k : Registers) (L : List T.Event) (w : World) (d : Decision) →

@@ -1,3 +1,4 @@
+pub mod Cases
 pub mod Fits
 pub mod Attempts
 pub mod Matchers

@@ -10,6 +10,7 @@ use Rattle.topl.proofs.Calls.{begins_begun}
 use Rattle.topl.proofs.Lawful.{tested}
 use Rattle.topl.proofs.Lasting.{lasting}
 use Rattle.topl.proofs.Refusing.{refusing}
+use Rattle.engine.proofs.Cases.{never}
 use Rattle.engine.specs.declared.property.Table.{Table}
 use Rattle.engine.specs.Meant.{meant}
 use Rattle.engine.specs.Views.{number}
@@ -40,11 +41,11 @@ made class s board book a b = record {
   book = b;
   sound = lasting.fresh_sound board book;
   lawful = empty_lawful;
-  lent = λ x e. absurd (let z : ◌≡◌ {A = ℕ} 0 1 = cc in omega arith);
-  cap = λ e. absurd (let z : ◌≡◌ {A = ℕ} 0 1 = cc in omega arith);
-  follows = λ e. absurd (let z : ◌≡◌ {A = ℕ} 0 1 = cc in omega arith);
-  known = λ b e. absurd (let z : ◌≡◌ {A = ℕ} 0 1 = cc in omega arith);
-  shown = λ b e. absurd (let z : ◌≡◌ {A = ℕ} 0 1 = cc in omega arith);
+  lent = λ x e. absurd (never cc);
+  cap = λ e. absurd (never cc);
+  follows = λ e. absurd (never cc);
+  known = λ b e. absurd (never cc);
+  shown = λ b e. absurd (never cc);
 }
 
 module _ {V : Type 0} (class : V → Class) (s : State V) (h : Held) (l : Ledger) (sh : Agrees class s h l) where
@@ -88,8 +89,8 @@ module _ {V : Type 0} (class : V → Class) (s : State V) (h : Held) (l : Ledger
             lent = λ y e. lent_same x y e;
             cap = λ e. o.0;
             follows = λ e. o.3;
-            known = λ b e. absurd (let z : ◌≡◌ {A = ℕ} 0 1 = cc in omega arith);
-            shown = λ b e. absurd (let z : ◌≡◌ {A = ℕ} 0 1 = cc in omega arith);
+            known = λ b e. absurd (never cc);
+            shown = λ b e. absurd (never cc);
           },
           B,
         )

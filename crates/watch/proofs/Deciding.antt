@@ -17,6 +17,7 @@ use Rattle.topl.specs.History.{Sound, Means}
 use Rattle.topl.proofs.Bounded.{bounded}
 use Rattle.topl.proofs.Calls.{feeds_ruled, closes_ruled}
 use Rattle.topl.proofs.Lasting.{lasting}
+use Rattle.engine.proofs.Cases.{never}
 use Rattle.engine.specs.declared.property.Table.{Table}
 use Rattle.engine.specs.Meant.{meant}
 use Rattle.engine.specs.declared.front.Decision.{Decision}
@@ -81,11 +82,11 @@ module _ {V : Type 0} (class : V → Class) (s : State V) (h : Held) (l : Ledger
 
     rests_lent : (asked : Asked) (x : Bor Table) → rests asked h.stage ≡ Running x → l.table ≡ meant x.now
     rests_lent Event x e = sh.lent x e
-    rests_lent End x e = absurd (let z : ◌≡◌ {A = ℕ} 0 1 = cc in omega arith)
+    rests_lent End x e = absurd (never cc)
 
     rests_whole : (asked : Asked) (b : Breach) → rests asked h.stage ≡ Broken b → ⊥
-    rests_whole Event b e = let f : phases.Running ≡ phases.Broken = sym (sh.phase ∙ run) ∙ ap phase_of e in let z : ◌≡◌ {A = ℕ} 0 1 = cc in omega arith
-    rests_whole End b e = let z : ◌≡◌ {A = ℕ} 0 1 = cc in omega arith
+    rests_whole Event b e = let f : phases.Running ≡ phases.Broken = sym (sh.phase ∙ run) ∙ ap phase_of e in never cc
+    rests_whole End b e = never cc
 
     same_breach : (a b : Breach) → ◌≡◌ {A = Stage} (Broken a) (Broken b) → a ≡ b
     same_breach a b e = cc
@@ -133,9 +134,9 @@ module _ {V : Type 0} (class : V → Class) (s : State V) (h : Held) (l : Ledger
               book = stays.book ∙ sh.book;
               sound = S (m, told r) o;
               lawful = sh.lawful;
-              lent = λ y e. absurd (let z : ◌≡◌ {A = ℕ} 0 1 = cc in omega arith);
-              cap = λ e. absurd (let z : ◌≡◌ {A = ℕ} 0 1 = cc in omega arith);
-              follows = λ e. absurd (let z : ◌≡◌ {A = ℕ} 0 1 = cc in omega arith);
+              lent = λ y e. absurd (never cc);
+              cap = λ e. absurd (never cc);
+              follows = λ e. absurd (never cc);
               known = λ b e. subst (λ (z : Breach). z.last.parent < t.grid.book.used) (same_breach a b e) (stays.known a refl);
               shown = λ b e. ap (λ (z : Breach). steps_by (vec_items t.grid.book.entries) z.last) (same_breach a b e);
             }),
@@ -143,11 +144,11 @@ module _ {V : Type 0} (class : V → Class) (s : State V) (h : Held) (l : Ledger
           )
       turned_by (Err Spills) stays C F u S =
           let m = turned l phases.Spilled (world_of l) in
-          let z = stopped Spilled IsSpilled t k r (Err Spills) (λ e. let z : ◌≡◌ {A = ℕ} 0 1 = cc in omega arith) (λ e. let z : ◌≡◌ {A = ℕ} 0 1 = cc in omega arith) refl stays u.0 u.1 refl in
+          let z = stopped Spilled IsSpilled t k r (Err Spills) (λ e. never cc) (λ e. never cc) refl stays u.0 u.1 refl in
           (m, z.0, λ j. (m, z.1 j))
       turned_by (Err Overfills) stays C F u S =
           let m = turned l phases.Full (world_of l) in
-          let z = stopped Full IsFull t k r (Err Overfills) (λ e. let z : ◌≡◌ {A = ℕ} 0 1 = cc in omega arith) (λ e. let z : ◌≡◌ {A = ℕ} 0 1 = cc in omega arith) refl stays u.0 u.1 refl in
+          let z = stopped Full IsFull t k r (Err Overfills) (λ e. never cc) (λ e. never cc) refl stays u.0 u.1 refl in
           (m, z.0, λ j. (m, z.1 j))
       turned_by (Ok _) stays C F u S =
           let m = turned l (idle asked) w in
@@ -170,7 +171,7 @@ module _ {V : Type 0} (class : V → Class) (s : State V) (h : Held) (l : Ledger
             o,
           )
 
-  -- what the rows promise of an event or of the end, at the table that was lent
+  -- what the rows promise of an event, at the table that was lent
   abbrev pub Promise : T.Table → State V → ℕ → (List T.Event → World) → (State V → T.Table → Registers → List T.Event → Type 0) → Result (Unit {0}) Decision → Type 0
   Promise P t judged world Then d = (k : Registers) (L : List T.Event) → Steady P k s.grid.cap (room_of (vec_items s.grid.book.entries)) L → judged ≡ length L → Follows class s P k L →
       ComesTo s t P k L (world L) d × Then t P k L
@@ -205,5 +206,5 @@ module _ {V : Type 0} (class : V → Class) (s : State V) (h : Held) (l : Ledger
       let came = promise (registers_of l) l.judged (steady run) sh.count (sh.follows run) in
       let is = rule_is run t w d came in
       let closes : (o : Ledger × Answer) → Settles l w phases.Kept (ruled d) o → Closes l o = λ o y. closes_ruled l (ruled d) o run is y in
-      let z = turned_by run t k End w r refl d stays came (λ g v. absurd (let z : ◌≡◌ {A = ℕ} 0 1 = cc in omega arith)) u (λ o y. lasting.close_sound l o sh.sound (closes o y)) in
+      let z = turned_by run t k End w r refl d stays came (λ g v. absurd (never cc)) u (λ o y. lasting.close_sound l o sh.sound (closes o y)) in
       (z.0, z.1, closes (z.0, told r) z.2)

@@ -102,13 +102,11 @@ impl<'a, K: Kind> Watch<'a, K> {
             (drew result) self.new }
     {
         self.running()?;
-        match source.next()? {
-            Some(event) => {
-                let standing = self.feed(event.id(), event.values())?;
-                Ok(Some(standing))
-            }
-            None => Ok(None),
-        }
+        let Some(event) = source.next()? else {
+            return Ok(None);
+        };
+        let standing = self.feed(event.id(), event.values())?;
+        Ok(Some(standing))
     }
 
     // Sets the stage and the judged count by the deciding rule's word.
