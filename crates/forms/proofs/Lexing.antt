@@ -25,10 +25,6 @@ pub digit_stops : (r : List ℕ) → Stops wordy r → Stops digit r
 digit_stops [] h = tt
 digit_stops (b ∷ r) h = elim (cases_Bool (digit b)) [ inl e ↦ apart (wordy b) (digit_wordy b e) h | inr e ↦ e ]
 
-pub every_left : (c : ℕ → Bool) (a b : List ℕ) → Every c (a ++ b) → Every c a
-every_left c [] b h = tt
-every_left c (x ∷ a) b h = (h.0, every_left c a b h.1)
-
 pub every_right : (c : ℕ → Bool) (a b : List ℕ) → Every c (a ++ b) → Every c b
 every_right c [] b h = h
 every_right c (x ∷ a) b h = every_right c a b h.1

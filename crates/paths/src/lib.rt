@@ -99,7 +99,8 @@ fn statement_read(statement: &Statement, x: usize) -> Option<usize>
 struct Reached<'a> {
     statements: &'a [Statement],
     register: usize,
-    // Kept flags: a set of std takes heap, and this search cannot fail for want of memory; an ArrayVec of the found states would owe that it never holds one twice.
+    // Kept flags: a set of std takes heap, and this search cannot fail for want of memory; an ArrayVec of the found states would owe that it never
+    // holds one twice.
     seen: [bool; 17],
     ghost whole: { length seen ≡ 17 },
 }

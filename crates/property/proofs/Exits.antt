@@ -17,13 +17,11 @@ use Rattle.property.specs.declared.reader.Flaw.{Flaw}
 use Rattle.property.specs.declared.reader.Found.{Found}
 use Rattle.property.proofs.Leasts.{least_marked, none_marked, rising_flaws}
 use Rattle.property.proofs.Lawfulness.{lawful}
+use Rattle.property.proofs.Living.{opened_by}
 use Rattle.property.proofs.Texts.{split, length_slice, slices}
 
 shut_by : {A : Type 0} (b : Bool) (x : A) → b ≡ false → cond b (Some x) None ≡ None
 shut_by b x e = ap (λ (y : Bool). cond y (Some x) None) e
-
-open_by : {A : Type 0} (b : Bool) (x : A) → b ≡ true → cond b (Some x) None ≡ Some x
-open_by b x e = ap (λ (y : Bool). cond y (Some x) None) e
 
 module _ (t : List ℕ) (p : State) (a f : ℕ) (g : Gapped (tight_at p.cursor.spot) t a f) where
   -- At the end of the text.
@@ -59,7 +57,7 @@ module _ (t : List ℕ) (p : State) (a f : ℕ) (g : Gapped (tight_at p.cursor.s
       split t a f g.low ∙ ap (λ (x : List ℕ). slice t a f ++ x)
       (drop_more t f 0 (omega arith) ∙ (ap (λ (b : ℕ). b ∷ drop (f + 1) t) z ∙ ap (λ (x : List ℕ). 48 ∷ x) (drop_more t (f + 1) 0 h))) in
       let o : opens p.cursor 48 ≡ true = ap (opens p.cursor) (sym z) ∙ e in
-      let y = zero_refused text lawful p (moved p (48 ∷ []) 48 (a + length (slice t a f))) a loose (slice t a f) g.spaces (open_by (opens p.cursor 48) _ o)
+      let y = zero_refused text lawful p (moved p (48 ∷ []) 48 (a + length (slice t a f))) a loose (slice t a f) g.spaces (opened_by (opens p.cursor 48) _ o)
       (get_or t (f + 1) 0) (drop a t) (drop ((f + 1) + 1) t) d w in
       let l : a ≤ f + 1 = omega arith in
       record { low = l; refused = subst (λ (k : ℕ). Refused (form text p a) (drop a t) 10 k) i y }
@@ -80,7 +78,7 @@ module _ (t : List ℕ) (p : State) (a f : ℕ) (g : Gapped (tight_at p.cursor.s
 
     goes : text.after p x.piece (a + length (slice t a f)) ≡ Some (moved p (slice t f q) (get_or t f 0) f)
     goes =
-        open_by (opens p.cursor (head_of x.piece)) (moved p (bytes x.piece) (head_of x.piece) (a + length (slice t a f))) (ap (opens p.cursor) x.begins ∙ may)
+        opened_by (opens p.cursor (head_of x.piece)) (moved p (bytes x.piece) (head_of x.piece) (a + length (slice t a f))) (ap (opens p.cursor) x.begins ∙ may)
         ∙ (ap (λ (w : List ℕ). Some (moved p w (head_of x.piece) (a + length (slice t a f)))) x.spells
         ∙ (ap (λ (b : ℕ). Some (moved p (slice t f q) b (a + length (slice t a f)))) x.begins ∙ ap (λ (k : ℕ). Some (moved p (slice t f q) (get_or t f 0) k)) place))
 

@@ -1,7 +1,6 @@
 -- From every position of a property text some text goes on.
 use Rattle.std.proofs.Common.{◌≡◌, ℕ, zero, suc, ◌+◌, ◌≤◌, Bool, true, false, cond, eqb, ltb, List, [], ◌∷◌, ◌++◌, get_or, Some, None, codes, sym, refl, ap, ◌∙◌, subst, inl, inr, arith, eq-eqb}
-use Rattle.std.proofs.lemmas.Bool.{cases_Bool}
-use Rattle.std.proofs.lemmas.Bool.Decides.{nat_tests}
+use Rattle.std.proofs.lemmas.Bool.{cases_Bool, le-ltb}
 use Rattle.forms.specs.Bytes.{space, wordy}
 use Rattle.forms.specs.Grammars.{Takes, stop, go, Lives}
 use Rattle.forms.specs.Pieces.{word, number, mark, Next}
@@ -33,8 +32,9 @@ rest_of p a l = l.gap ++ (l.body ++ l.rest)
 goes_on : (p : State) (a : ℕ) (l : Lives text p a) → Takes text p a l.value (rest_of p a l)
 goes_on p a l = go p l.on a l.value l.piece (rest_of p a l) l.gap l.body l.rest l.stands l.goes l.more
 
-opened_by : (b : Bool) (q : State) → b ≡ true → cond b (Some q) None ≡ Some q
-opened_by b q e = ap (λ (x : Bool). cond x (Some q) None) e
+-- A choice of something or nothing, where its test holds.
+pub opened_by : {A : Type 0} (b : Bool) (x : A) → b ≡ true → cond b (Some x) None ≡ Some x
+opened_by b x e = ap (λ (y : Bool). cond y (Some x) None) e
 
 -- By a mark whose place counts.
 by_placed : (p : State) (q : ℕ → State) (m : ℕ) → tight_at p.cursor.spot ≡ false → opens p.cursor m ≡ true → space m ≡ false → wordy m ≡ false
@@ -192,11 +192,8 @@ last_letter n p e =
     by_byte (turned (spots.Head (heads.Keyword n)) p) (turned (spots.Head heads.Gap) p) (get_or (codes "property") n 121) refl (eq-eqb _ _ refl)
     (λ _. ap (λ (b : Bool). turned (spots.Head (cond b (heads.Keyword (n + 1)) heads.Gap)) p) e) (gap p)
 
-far : (n : ℕ) → 7 ≤ n → ltb n 7 ≡ false
-far n h = grind (arith, nat_tests)
-
 keyword : (f n : ℕ) (p : State) → 7 ≤ n + f → Living (turned (spots.Head (heads.Keyword n)) p)
-keyword zero n p h = last_letter n p (far n (omega arith))
+keyword zero n p h = last_letter n p (le-ltb n 7 (omega arith))
 keyword (suc f) n p h = elim (cases_Bool (ltb n 7)) [
   | inl e ↦
       by_byte (turned (spots.Head (heads.Keyword n)) p) (turned (spots.Head (heads.Keyword (n + 1))) p) (get_or (codes "property") n 121) refl (eq-eqb _ _ refl)

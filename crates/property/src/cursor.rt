@@ -24,6 +24,8 @@ pub struct Partial {
 #[derive(Clone, Copy)]
 pub struct Cursor {
     pub spot: Spot,
+    // Kept a label and a statement where none is being read: an Option of either would have to be unwrapped at each of its pieces, which its
+    // beginning always precedes.
     pub label: Partial,
     pub statement: Statement,
     // Kept two bools: each holds or not by itself and has no value beside it, so an enum would have a variant for each of the four cases.
@@ -46,7 +48,8 @@ impl Partial {
     {
         Partial {
             kind,
-            // Kept 0 for the number and the arity until the method is read: an Option would have to be unwrapped where the label ends, which its method always precedes.
+            // Kept 0 for the number and the arity until the method is read: an Option would have to be unwrapped where the label ends, which its
+            // method always precedes.
             number: 0,
             arity: 0,
             count,
@@ -67,7 +70,8 @@ impl Partial {
     pub(crate) fn writing(mut self, register: usize) -> Partial
         ensures { result ≡ writing register self }
     {
-        // Kept an index: once a `get_mut` of an array is over, a proof knows none of its elements, so the goals `returns-in-Some` and `returns-in_default` stay open.
+        // Kept an index: once a `get_mut` of an array is over, a proof knows none of its elements, so the goals `returns-in-Some` and
+        // `returns-in_default` stay open.
         if register < 8 {
             self.written[register] = true;
         }
@@ -104,7 +108,7 @@ impl Cursor {
         }
     }
 
-    // The next pattern of the label is read.
+    // The next pattern of the label is read: five parameters are kept, and the count stops at seven, which no method has.
     pub(crate) fn filled(mut self, slot: Slot) -> Cursor
         ensures { result ≡ filled slot self }
     {
@@ -130,7 +134,7 @@ impl Cursor {
         usize::from(self.starts) + usize::from(self.errs)
     }
 
-    // One more event of the statement is read.
+    // One more event of the statement is read, of which four are kept.
     pub(crate) fn met(mut self, event: Event) -> Cursor
         ensures { result ≡ met event self }
     {

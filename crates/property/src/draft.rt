@@ -18,8 +18,8 @@ use topl::states::{ERROR, START};
 #[derive(Drop)]
 pub struct Draft {
     pub cursor: Cursor,
-    // Kept a name, empty where none waits: an Option would have to be unwrapped where the method is declared, which its name always precedes. A name in the spot
-    // means nothing to the grammar in specs/, which uses the same `Spot` and has no text to look it up in.
+    // Kept a name, which stays after its method is declared: an Option would have to be unwrapped where the method is declared, which its name
+    // always precedes. A name in the spot means nothing to the grammar in specs/, which uses the same `Spot` and has no text to look it up in.
     pub word: Name,
     // Kept a name, empty until it is read: an Option would be asked by whoever reads a finished draft, which always has its name.
     pub name: Name,

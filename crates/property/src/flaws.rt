@@ -202,7 +202,7 @@ impl Reading<'_> {
         self.pattern_flaw(found)
     }
 
-    // The fault of a piece of a line that is no statement.
+    // The fault of a piece at a line's beginning or end, or of a line that is no statement.
     fn line_flaw(&self, line: Line, w: &[u8]) -> Option<TextReason>
         ensures { told result ≡ worst (line_flaws line (seen self.now) w.now) }
     {

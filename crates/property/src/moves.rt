@@ -145,7 +145,7 @@ impl Draft {
         self.leaving(text, name)
     }
 
-    // A piece of a line that is no statement is read.
+    // A piece at a line's beginning or end, or of a line that is no statement, is read.
     fn line(&mut self, line: Line, text: &[u8], name: Name) -> Result<(), AllocError>
         ensures { OnOk result (view text.now self.new ≡ state.line_moved line (view text.now self.old) (spelling text.now name)) }
     {
@@ -254,6 +254,7 @@ impl Cursor {
     fn called(mut self, method: Option<Method>) -> Cursor
         ensures { result ≡ state.callee_at self.label.kind (cursor.labelled (cursor.naming (number_of method) (arity_of method) self.label) self) }
     {
+        // Kept 0 where none is declared: the text has a fault there, and an Option would have to go on into the label, the call and the return.
         self.label.number = method.map_or(0, |m| m.number);
         self.label.arity = method.map_or(0, |m| m.arity);
         match self.label.kind {

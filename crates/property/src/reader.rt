@@ -41,7 +41,8 @@ pub struct Found {
 }
 
 // The text and the place that it has been read to.
-// Kept without an invariant, so that its functions require a place within the text: its fields are public, and an invariant would ask more of whoever makes one.
+// Kept without an invariant, so that its functions require that its place, and the `from` that they are given, lie within the text: its fields
+// are public, and an invariant would ask more of whoever makes one.
 #[derive(Drop)]
 pub struct Reader<'a> {
     pub text: &'a [u8],
@@ -62,10 +63,9 @@ impl Reader<'_> {
 
     // Whether a zero stands before the other digits of a number.
     fn padded(&self, from: usize, end: usize) -> bool
-        requires { from < length self.now.text.now }
         ensures { result ≡ (slice_index self.now.text.now from == 48) && nat_lt 1 (end - from) }
     {
-        self.text[from] == b'0' && end.saturating_sub(from) > 1
+        self.text.get(from) == Some(&b'0') && end.saturating_sub(from) > 1
     }
 
     // Where the piece ends that begins at a place, at a spot.

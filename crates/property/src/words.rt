@@ -52,7 +52,7 @@ pub(crate) fn same_variable(a: &[u8], b: &[u8]) -> bool
 
 impl Register {
     // Whether two constants or variables have one register.
-    // Kept beside no `PartialEq`: a name is two places, and which bytes stand there only the text says.
+    // Kept a method, in place of `PartialEq`: a name is two places, and which bytes stand there only the text says.
     pub(crate) fn same(self, other: Register, text: &[u8]) -> bool
         ensures { result ≡ same_key (key_of text.now self) (key_of text.now other) }
     {

@@ -1,23 +1,17 @@
-use Rattle.std.proofs.Common.{◌≡◌, ℕ, ◌<◌, ◌≤◌, true, false, eqb, ltb, List, length, get_or, is_some, Some, None, Option, Bor, refl, sym, ap, ◌∙◌, arith}
+use Rattle.std.proofs.Common.{◌≡◌, ℕ, eqb, ltb, List, length, get_or, is_some, Some, None, Option, Bor, refl, sym, ap, ◌∙◌}
 use Rattle.std.specs.Option.{IfSome, option_eq}
+use Rattle.std.proofs.lemmas.Bool.{ltb-true, ltb-false}
 use Rattle.std.proofs.lemmas.List.{get_or_past, get_or_default}
-use Rattle.std.proofs.lemmas.Bool.Decides.{nat_tests}
 use Rattle.forms.specs.Bytes.{space}
 use Rattle.property.specs.Words.{first_byte}
 use Rattle.property.proofs.Texts.{past_passed, first_drop}
 use Rattle.property.proofs.words.colon_next.Goals as goal
 
-past_end : (q n : ℕ) → false ≡ ltb q n → n ≤ q
-past_end q n e = grind (arith, nat_tests)
-
-before_end : (q n : ℕ) → true ≡ ltb q n → q < n
-before_end q n e = grind (arith, nat_tests)
-
 -- Whether the byte at a place is the one sought.
 by_place : (t : List ℕ) (q : ℕ) (o : Option (Bor ℕ)) (b : Bor ℕ) → is_some o ≡ ltb q (length t) → IfSome o (λ x. x.now ≡ get_or t q x.now) → (b.now ≡ 58)
     → option_eq (λ (x y : Bor ℕ). eqb x.now y.now) o (Some b) ≡ eqb (get_or t q 0) 58
-by_place t q None b h e z = ap (λ (n : ℕ). eqb n 58) (sym (get_or_past t q 0 (past_end q (length t) h)))
-by_place t q (Some x) b h e z = ap (λ (n : ℕ). eqb n b.now) (e ∙ get_or_default t q x.now 0 (before_end q (length t) h)) ∙ ap (eqb (get_or t q 0)) z
+by_place t q None b h e z = ap (λ (n : ℕ). eqb n 58) (sym (get_or_past t q 0 (ltb-false q (length t) (sym h))))
+by_place t q (Some x) b h e z = ap (λ (n : ℕ). eqb n b.now) (e ∙ get_or_default t q x.now 0 (ltb-true q (length t) (sym h))) ∙ ap (eqb (get_or t q 0)) z
 
 pub returns : goal.returns
 returns c =

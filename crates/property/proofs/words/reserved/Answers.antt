@@ -1,12 +1,7 @@
 use Rattle.std.proofs.Common.{◌≡◌, Bool, true, false, ◌||◌, List, ℕ, bytes_eq, codes, refl, sym, ap, ◌∙◌}
+use Rattle.std.specs.Cmp.{both_ways}
 use Rattle.std.proofs.lemmas.Slice.Eq.{bytes_eq-Decides}
 use Rattle.property.proofs.words.reserved.Goals as goal
-
--- Two tests that follow from one another are the same.
-both : (b d : Bool) → (b ≡ true → d ≡ true) → (d ≡ true → b ≡ true) → b ≡ d
-both true d f g = sym (f refl)
-both false true f g = g refl
-both false false f g = refl
 
 or_false : (b : Bool) → b || false ≡ b
 or_false true = refl
@@ -14,7 +9,7 @@ or_false false = refl
 
 -- Which of two words comes first does not matter.
 turned : (a b : List ℕ) → bytes_eq a b ≡ bytes_eq b a
-turned a b = both _ _ (λ e. (bytes_eq-Decides b a).1 (sym ((bytes_eq-Decides a b).0 e))) (λ e. (bytes_eq-Decides a b).1 (sym ((bytes_eq-Decides b a).0 e)))
+turned a b = both_ways _ _ (λ e. (bytes_eq-Decides b a).1 (sym ((bytes_eq-Decides a b).0 e))) (λ e. (bytes_eq-Decides a b).1 (sym ((bytes_eq-Decides b a).0 e)))
 
 -- The same of the first of several.
 or_turned : (a r w : List ℕ) {p q : Bool} → a ≡ r → p ≡ q → bytes_eq a w || p ≡ bytes_eq w r || q
