@@ -17,7 +17,7 @@ pub(crate) fn find<K: Kind>(states: &[u8], values: &[K::Value], c: &Configuratio
     ensures { result ≡ holds alikeᶜ (row K.Kind.class states.now values.now) (stands_for K.Kind.class c.now) }
 {
     // Kept a nested search left by a label: a fixed form of the project, since the first register that differs ends the look at its configuration alone.
-    // Kept an index for the values: they are more than eight for each state, and `chunks_exact` would need a proof of which chunk is whose.
+    // Kept an index for the values: with a `zip` over `chunks_exact(8)` the goal `returns-in-configurations` stays open.
     'configurations: for (i, s) in states.iter().enumerate() {
         if *s != c.state {
             continue 'configurations;

@@ -1,5 +1,5 @@
 -- Every table that a history meets is lawful.
-use Rattle.std.proofs.Common.{ℕ, List, [], ◌∷◌, vec_items, sym, subst}
+use Rattle.std.proofs.Common.{ℕ, List, [], ◌∷◌, sym, subst}
 use Rattle.topl.specs.Lists.{Class}
 use Rattle.topl.specs.Table.{Table, Lawful}
 use Rattle.topl.specs.Ledger as L
