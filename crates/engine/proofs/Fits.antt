@@ -9,14 +9,15 @@ use Rattle.topl.specs.Table.{at, Event, places}
 use Rattle.topl.specs.Runs.{Registers, fits, written, fits_all, written_all, meets}
 use Rattle.topl.specs.declared.pattern.Pattern.{Pattern}
 use Rattle.topl.specs.declared.pattern.Pattern.TheVariants.{Any}
-use Rattle.engine.specs.declared.table.Register.{Register}
-use Rattle.engine.specs.declared.table.Guard.{Guard}
-use Rattle.engine.specs.declared.table.Matcher.{Matcher}
-use Rattle.engine.specs.declared.table.Matcher.TheVariants.{Any as AnyEvent, Event as OneEvent}
+use Rattle.tables.specs.declared.parts.Register.{Register}
+use Rattle.tables.specs.declared.parts.Guard.{Guard}
+use Rattle.tables.specs.declared.parts.Matcher.{Matcher}
+use Rattle.tables.specs.declared.parts.Matcher.TheVariants.{Any as AnyEvent, Event as OneEvent}
 use Rattle.engine.specs.declared.window.Witnessed.{Witnessed}
 use Rattle.topl.specs.Lists.{same_class}
 use Rattle.topl.proofs.Basics.{same_tests, bool_same}
-use Rattle.engine.specs.Views.{pattern, matcher, Shown}
+use Rattle.tables.specs.Views.{pattern, matcher}
+use Rattle.engine.specs.Views.{Shown}
 
 -- the patterns of a matcher
 abbrev pub patterns_of : Matcher → List (Pattern Register)

@@ -3,8 +3,8 @@ use Rattle.std.proofs.Common.{◌≡◌, ℕ, ◌+◌, ◌<◌, ◌≤◌, List,
 use Rattle.std.proofs.lemmas.List.{get_or-map, drop_more, length-map}
 use Rattle.topl.specs.Table as T
 use Rattle.topl.specs.Runs.{Outcome, Registers, fares}
-use Rattle.engine.specs.declared.table.Matcher as M
-use Rattle.engine.specs.Views.{matcher, over}
+use Rattle.tables.specs.declared.parts.Matcher as M
+use Rattle.tables.specs.Views.{matcher, over}
 
 -- the matchers of a statement, one by one
 pub matchers_more : (ms : List M.Matcher) (j : ℕ) (m : M.Matcher) → j < length ms → m ≡ get_or ms j m → drop j (map matcher ms) ≡ matcher m ∷ drop (j + 1) (map matcher ms)

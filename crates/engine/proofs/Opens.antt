@@ -11,8 +11,8 @@ use Rattle.engine.specs.declared.entry.Entry.{Entry}
 use Rattle.engine.specs.declared.front.Front.{Front}
 use Rattle.engine.specs.declared.book.Book.{Book}
 use Rattle.engine.specs.declared.grid.Grid as TheGrid
-use Rattle.engine.specs.declared.table.Register.{Register}
-use Rattle.engine.specs.Views.{number}
+use Rattle.tables.specs.declared.parts.Register.{Register}
+use Rattle.tables.specs.Views.{number}
 use Rattle.engine.specs.Trails.{steps_to, room_of}
 use Rattle.engine.specs.Fronts.{configuration, row, row_at, count_at, entries_at, stored, Added, Bare, Below, Grid, grid}
 use Rattle.engine.specs.Fills.{Tracked}

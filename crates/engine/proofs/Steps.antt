@@ -12,7 +12,8 @@ use Rattle.engine.specs.declared.entry.Entry.{Entry}
 use Rattle.engine.specs.declared.grid.Grid as G
 use Rattle.engine.specs.declared.scene.Scene.{Scene}
 use Rattle.engine.specs.Modes.{mode_of}
-use Rattle.engine.specs.Views.{statement, Seen}
+use Rattle.tables.specs.Views.{statement}
+use Rattle.engine.specs.Views.{Seen}
 use Rattle.engine.specs.Trails.{steps_to}
 use Rattle.engine.specs.Fronts.{row_at, count_at, entries_at}
 use Rattle.engine.specs.Grids.{grid_of}

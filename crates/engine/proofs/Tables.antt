@@ -8,8 +8,8 @@ use Rattle.topl.specs.Lists.{◌∈◌}
 use Rattle.topl.specs.Table as T
 use Rattle.topl.specs.Runs.{Configuration, Mode, World, calm, calms, fares, quiet}
 use Rattle.topl.proofs.Moves as M
-use Rattle.engine.specs.declared.table.Statement.{Statement}
-use Rattle.engine.specs.Views.{statement}
+use Rattle.tables.specs.declared.parts.Statement.{Statement}
+use Rattle.tables.specs.Views.{statement}
 
 number_at : (n : ℕ) (ts : List T.Statement) (i : ℕ) (d : ℕ × T.Statement) → i < length ts → (get_or (T.count_from n ts) i d).0 ≡ n + i
 number_at n [] i d l = absurd (omega arith)

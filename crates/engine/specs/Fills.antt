@@ -14,7 +14,8 @@ use Rattle.engine.specs.declared.grid.Grid as G
 use Rattle.engine.specs.declared.front.Decision.{Decision}
 use Rattle.engine.specs.declared.front.Decision.TheVariants.{Breaks, Spills, Overfills}
 use Rattle.engine.specs.Modes.{mode_of}
-use Rattle.engine.specs.Views.{statement, Seen}
+use Rattle.tables.specs.Views.{statement}
+use Rattle.engine.specs.Views.{Seen}
 use Rattle.engine.specs.Trails.{steps_to, steps_by, room_of}
 use Rattle.engine.specs.Fronts.{row_at, count_at, entries_at, stands_for, Grid, Others, Spares}
 use Rattle.engine.specs.Grids.{grid_of}

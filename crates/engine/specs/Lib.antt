@@ -4,8 +4,6 @@ pub mod Fronts
 pub mod Grids
 pub mod Modes
 pub mod Fills
-pub mod Properties
-pub mod Meant
 pub mod Judging
 pub mod Windows
 pub mod States

@@ -2,9 +2,11 @@
 ghost use Rattle.std.specs.Prelude.{◌≡◌, List, map};
 ghost use Rattle.topl.specs.Table.{Event as Happening};
 ghost use Rattle.topl.specs.Runs.{fits, meets, written, writes, fares};
-ghost use Rattle.engine.specs.Views.{pattern, matcher, Shown, Seen, told};
+ghost use Rattle.tables.specs.Views.{pattern, matcher};
+ghost use Rattle.engine.specs.Views.{Shown, Seen, told};
 
-use crate::table::{Matcher, Outcome, Register};
+use crate::numbered::Outcome;
+use tables::parts::{Matcher, Register};
 use crate::window::Witnessed;
 use kinds::kind::Kind;
 use topl::pattern::Pattern;

@@ -7,7 +7,8 @@ ghost use Rattle.topl.specs.Runs.{Registers, World, Reach, quiet, calm, calms, f
 ghost use Rattle.topl.specs.Rows.{landed, incoming};
 ghost use Rattle.engine.specs.declared.table.Matcher.TheVariants.{Any};
 ghost use Rattle.engine.specs.Modes.{mode_of};
-ghost use Rattle.engine.specs.Views.{matcher, statement, stated, Seen};
+ghost use Rattle.tables.specs.Views.{matcher, statement};
+ghost use Rattle.engine.specs.Views.{stated, Seen};
 ghost use Rattle.engine.specs.Trails.{steps_to, steps_by};
 ghost use Rattle.engine.specs.Fronts.{stands_for};
 ghost use Rattle.engine.specs.Grids.{row_of};
@@ -21,7 +22,8 @@ use crate::grid::Grid;
 use crate::row::{arrive, entered_at};
 use crate::scene::{Position, Scene};
 use crate::slot::Slot;
-use crate::table::{Matcher, Numbered, Outcome, Statement};
+use crate::numbered::{Numbered, Outcome};
+use tables::parts::{Matcher, Statement};
 use kinds::kind::Kind;
 use topl::states::{ERROR, START};
 

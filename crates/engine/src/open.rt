@@ -4,13 +4,13 @@ ghost use Rattle.topl.specs.Table.{Table as TheTable};
 ghost use Rattle.topl.specs.Ledger.{sets, initial};
 ghost use Rattle.engine.specs.Trails.{room_of};
 ghost use Rattle.engine.specs.States.{Follows};
-ghost use Rattle.engine.specs.Views.{number};
+ghost use Rattle.tables.specs.Views.{number};
 
 use crate::front::Front;
 use crate::row::put_configuration;
 use crate::slot::Slot;
 use crate::state::State;
-use crate::table::Register;
+use tables::parts::Register;
 use kinds::kind::Kind;
 use topl::states::START;
 

@@ -4,7 +4,7 @@ ghost use Rattle.topl.specs.Table.{Event as Happening};
 ghost use Rattle.topl.specs.Runs.{Registers, so_far, closing};
 ghost use Rattle.topl.specs.Theorems.{Steady, seen as shown};
 ghost use Rattle.engine.specs.Trails.{room_of, steps_by, Written};
-ghost use Rattle.engine.specs.Meant.{meant};
+ghost use Rattle.tables.specs.Meant.{meant};
 ghost use Rattle.engine.specs.States.{Follows, ComesTo, Stays};
 ghost use Rattle.engine.specs.Opening.{Opens};
 
@@ -14,7 +14,7 @@ use crate::front::{Decision, Front};
 use crate::grid::Grid;
 use crate::mode::Mode;
 use crate::open::open_rows;
-use crate::property::Table;
+use tables::table::Table;
 use crate::remember::{forget, witness};
 use crate::settle::settle;
 use crate::slot::Slot;

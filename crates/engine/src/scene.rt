@@ -2,7 +2,7 @@
 ghost use Rattle.std.specs.Prelude.{◌≡◌, ◌+◌, ◌≤◌, drop, length};
 
 use crate::mode::Mode;
-use crate::table::Statement;
+use tables::parts::Statement;
 use crate::window::Witnessed;
 
 // The statements, and the events from position `base` on; whether the list has ended.

@@ -2,7 +2,7 @@
 ghost use Rattle.std.specs.Prelude.{◌≡◌, ◌+◌, ◌≤◌, List, drop};
 ghost use Rattle.topl.specs.Table.{Event as Happening};
 ghost use Rattle.topl.specs.Runs.{Registers, World};
-ghost use Rattle.engine.specs.Meant.{meant};
+ghost use Rattle.tables.specs.Meant.{meant};
 ghost use Rattle.engine.specs.Modes.{mode_of};
 ghost use Rattle.engine.specs.Judging.{StartsAt, DecidedBy};
 ghost use Rattle.engine.specs.Windows.{Remembers};
@@ -11,7 +11,7 @@ ghost use Rattle.engine.specs.States.{Stays};
 use crate::front::Decision;
 use crate::judge::judge;
 use crate::mode::Mode;
-use crate::property::Table;
+use tables::table::Table;
 use crate::scene::Scene;
 use crate::state::State;
 use kinds::kind::Kind;

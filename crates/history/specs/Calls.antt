@@ -8,7 +8,7 @@ use Rattle.topl.specs.Ledger.{Ledger, Source}
 use Rattle.topl.specs.History as H
 use Rattle.topl.specs.History.{Moment, Log}
 use Rattle.sources.specs.Events.{Happening}
-use Rattle.engine.specs.Meant as tables
+use Rattle.tables.specs.Meant as tables
 use Rattle.watch.specs.Answers.{stands_for, tells}
 use Rattle.watch.specs.Shows.{meaning}
 use Rattle.history.specs.declared.call.Call.{Call}

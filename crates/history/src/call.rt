@@ -2,7 +2,7 @@
 ghost use Rattle.std.specs.Prelude.{◌≡◌};
 ghost use Rattle.watch.specs.Answers.{began, told, drew};
 
-use engine::property::Table;
+use tables::table::Table;
 use kinds::refusal::Refusal;
 use watch::standing::{Standing, Verdict};
 

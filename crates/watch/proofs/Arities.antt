@@ -2,8 +2,8 @@
 use Rattle.std.proofs.Common.{◌≡◌, ℕ, ◌/◌, Bool, not, ◌&&◌, ◌||◌, eqb, List, [], ◌∷◌, map, refl, ap}
 use Rattle.std.specs.List.{list_any}
 use Rattle.topl.specs.Ledger.{other_arity}
-use Rattle.engine.specs.declared.table.Method.{Method}
-use Rattle.engine.specs.Properties.{method}
+use Rattle.property.specs.declared.table.Method.{Method}
+use Rattle.tables.specs.Properties.{method}
 
 -- a method of this id with another arity than n
 abbrev pub differs : ℕ → ℕ → Method → Bool

@@ -11,9 +11,9 @@ use Rattle.topl.proofs.Lawful.{tested}
 use Rattle.topl.proofs.Lasting.{lasting}
 use Rattle.topl.proofs.Refusing.{refusing}
 use Rattle.engine.proofs.Cases.{never}
-use Rattle.engine.specs.declared.property.Table.{Table}
-use Rattle.engine.specs.Meant.{meant}
-use Rattle.engine.specs.Views.{number}
+use Rattle.tables.specs.declared.table.Table.{Table}
+use Rattle.tables.specs.Meant.{meant}
+use Rattle.tables.specs.Views.{number}
 use Rattle.engine.specs.declared.state.State.{State}
 use Rattle.engine.specs.declared.rows.Unsuited.{Unsuited}
 use Rattle.engine.specs.Opening.{Opens}

@@ -18,8 +18,8 @@ use Rattle.topl.proofs.Bounded.{bounded}
 use Rattle.topl.proofs.Calls.{feeds_ruled, closes_ruled}
 use Rattle.topl.proofs.Lasting.{lasting}
 use Rattle.engine.proofs.Cases.{never}
-use Rattle.engine.specs.declared.property.Table.{Table}
-use Rattle.engine.specs.Meant.{meant}
+use Rattle.tables.specs.declared.table.Table.{Table}
+use Rattle.tables.specs.Meant.{meant}
 use Rattle.engine.specs.declared.front.Decision.{Decision}
 use Rattle.engine.specs.declared.front.Decision.TheVariants.{Breaks, Spills, Overfills}
 use Rattle.engine.specs.declared.state.State.{State}

@@ -11,7 +11,7 @@ use Rattle.sources.specs.declared.event.Event.{Event}
 use Rattle.sources.specs.Events.{Happening}
 use Rattle.sources.specs.Sayings.{says}
 use Rattle.sources.specs.Sources.{Next}
-use Rattle.engine.specs.declared.property.Table.{Table}
+use Rattle.tables.specs.declared.table.Table.{Table}
 use Rattle.engine.specs.declared.state.State.{State}
 use Rattle.watch.specs.declared.held.Held.{Held}
 use Rattle.watch.specs.declared.held.Stage.TheVariants.{Running}

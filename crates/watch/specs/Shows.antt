@@ -10,8 +10,8 @@ use Rattle.topl.specs.Theorems.{seen}
 use Rattle.topl.specs.Ledger.{Ledger, Answer, registers_of, Source}
 use Rattle.topl.specs.History.{Sound}
 use Rattle.sources.specs.Events.{Happening}
-use Rattle.engine.specs.declared.property.Table.{Table}
-use Rattle.engine.specs.Meant.{meant}
+use Rattle.tables.specs.declared.table.Table.{Table}
+use Rattle.tables.specs.Meant.{meant}
 use Rattle.engine.specs.declared.state.State.{State}
 use Rattle.engine.specs.States.{Follows}
 use Rattle.engine.specs.Trails.{steps_by}

@@ -4,7 +4,7 @@ ghost use Rattle.watch.specs.Stages.{phase_of, position_of};
 ghost use Rattle.watch.specs.declared.held.Stage.TheVariants.{Blank};
 
 use engine::front::Breach;
-use engine::property::Table;
+use tables::table::Table;
 use kinds::phase::Phase;
 
 // The phase, with what the watch keeps for it: the table that was lent while it runs, and the breach once it is broken.

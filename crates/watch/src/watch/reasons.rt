@@ -6,12 +6,12 @@ ghost use Rattle.topl.specs.Table.{Table as Property};
 ghost use Rattle.watch.specs.Answers.{RefusedFor, Checks};
 ghost use Rattle.watch.specs.Stages.{phase_of};
 ghost use Rattle.watch.specs.declared.held.Stage.TheVariants.{Running};
-ghost use Rattle.engine.specs.Properties.{method};
+ghost use Rattle.tables.specs.Properties.{method};
 
 use crate::held::Stage;
 use crate::watch::Watch;
-use engine::property::Table;
-use engine::table::Method;
+use tables::table::Table;
+use property::table::Method;
 use kinds::kind::Kind;
 use kinds::refusal::{Layer, Reason, Refusal};
 use kinds::watch_reason::WatchReason;

@@ -1,7 +1,8 @@
 use Rattle.std.proofs.Common.{◌≡◌, List, map, drop}
 use Rattle.topl.specs.Table.{Event}
 use Rattle.topl.specs.Runs.{fares}
-use Rattle.engine.specs.Views.{matcher, Seen}
+use Rattle.tables.specs.Views.{matcher}
+use Rattle.engine.specs.Views.{Seen}
 use Rattle.engine.proofs.attempt.attempt_statement.Given as goal
 
 abbrev pub invariant-loop-j : goal.invariant-loop-j

@@ -2,7 +2,7 @@ use Rattle.std.proofs.Common.{◌≡◌, [], ◌∷◌, map, length, drop, sym, 
 use Rattle.std.proofs.lemmas.Slice.Zip.{zip_turn}
 use Rattle.topl.specs.Runs.{written, written_all}
 use Rattle.topl.specs.declared.pattern.Pattern.TheVariants.{Any}
-use Rattle.engine.specs.Views.{pattern}
+use Rattle.tables.specs.Views.{pattern}
 use Rattle.engine.proofs.Fits.{patterns_of, write_step}
 use Rattle.engine.proofs.attempt.write_matcher.Goals as goal
 

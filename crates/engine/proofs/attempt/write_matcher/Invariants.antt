@@ -1,6 +1,6 @@
 use Rattle.std.proofs.Common.{◌≡◌, map, length, drop}
 use Rattle.topl.specs.Runs.{written_all}
-use Rattle.engine.specs.Views.{pattern}
+use Rattle.tables.specs.Views.{pattern}
 use Rattle.engine.proofs.Fits.{patterns_of}
 use Rattle.engine.proofs.attempt.write_matcher.Given as goal
 

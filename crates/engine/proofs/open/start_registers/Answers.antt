@@ -1,7 +1,7 @@
 use Rattle.std.proofs.Common.{◌≡◌, [], ◌∷◌, map, length, replicate, drop, set, sym, ◌∙◌, subst, rules, length-set, length-append}
 use Rattle.std.proofs.lemmas.Slice.Zip.{zip_turn}
 use Rattle.topl.specs.Ledger.{sets}
-use Rattle.engine.specs.Views.{number}
+use Rattle.tables.specs.Views.{number}
 use Rattle.engine.proofs.Opens.{sets_more}
 use Rattle.engine.proofs.open.start_registers.Goals as goal
 

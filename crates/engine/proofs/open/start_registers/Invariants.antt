@@ -1,6 +1,6 @@
 use Rattle.std.proofs.Common.{◌≡◌, [], map, length, drop, replicate}
 use Rattle.topl.specs.Ledger.{sets}
-use Rattle.engine.specs.Views.{number}
+use Rattle.tables.specs.Views.{number}
 use Rattle.engine.proofs.open.start_registers.Given as goal
 
 abbrev pub invariant-loop-r : goal.invariant-loop-r

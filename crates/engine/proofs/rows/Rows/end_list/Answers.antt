@@ -2,7 +2,7 @@ use Rattle.std.proofs.Common.{◌≡◌, ℕ, ◌+◌, ◌-◌, length, drop, ve
 use Rattle.topl.specs.Runs.{closing}
 use Rattle.topl.proofs.Bounded.{bounded}
 use Rattle.engine.specs.Trails.{room_of}
-use Rattle.engine.specs.Meant.{meant}
+use Rattle.tables.specs.Meant.{meant}
 use Rattle.engine.specs.Grids.{grid_of}
 use Rattle.engine.specs.Judging.{Start}
 use Rattle.engine.specs.Windows.{Remembers}

@@ -1,6 +1,6 @@
 use Rattle.std.proofs.Common.{map, sym, ap}
-use Rattle.engine.specs.Views.{number}
-use Rattle.engine.specs.Meant.{meant}
+use Rattle.tables.specs.Views.{number}
+use Rattle.tables.specs.Meant.{meant}
 use Rattle.engine.proofs.rows.Rows.open.Goals as goal
 
 pub returns : goal.returns

@@ -3,7 +3,7 @@ use Rattle.topl.specs.Runs.{so_far}
 use Rattle.topl.specs.Theorems.{seen}
 use Rattle.topl.proofs.Bounded.{bounded}
 use Rattle.engine.specs.Trails.{room_of}
-use Rattle.engine.specs.Meant.{meant}
+use Rattle.tables.specs.Meant.{meant}
 use Rattle.engine.specs.Fronts.{Cleared}
 use Rattle.engine.specs.Grids.{grid_of}
 use Rattle.engine.specs.Judging.{Start, Decided}

@@ -1,6 +1,6 @@
 use Rattle.std.proofs.Common.{◌≡◌, ℕ, length, Ok, Err, sym, ap, ◌∙◌, subst, arith}
 use Rattle.std.specs.Result.{result_or}
-use Rattle.engine.specs.Meant.{meant}
+use Rattle.tables.specs.Meant.{meant}
 use Rattle.engine.specs.Opening.{Opens}
 use Rattle.engine.proofs.Properties.{lawful}
 use Rattle.watch.proofs.Beginning.{begin_free, begin_runs, opened}

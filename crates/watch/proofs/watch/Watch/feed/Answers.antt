@@ -2,8 +2,8 @@ use Rattle.std.proofs.Common.{map, ◌≡◌, None, sym, ap, ◌∙◌, subst}
 use Rattle.std.proofs.lemmas.List.{length-map}
 use Rattle.topl.specs.Theorems.{seen}
 use Rattle.topl.specs.Ledger.{event_reason, count_reason}
-use Rattle.engine.specs.Meant.{meant}
-use Rattle.engine.specs.Properties.{method}
+use Rattle.tables.specs.Meant.{meant}
+use Rattle.tables.specs.Properties.{method}
 use Rattle.watch.specs.Shows.{Agrees}
 use Rattle.watch.proofs.Deciding.{feed_ruled}
 use Rattle.watch.proofs.watch.Watch.feed.Goals as goal

@@ -1,10 +1,10 @@
 -- The theory's table of methods, constants and statements as code holds them.
 use Rattle.std.specs.Prelude.{ℕ, List, map}
 use Rattle.topl.specs.Table as T
-use Rattle.engine.specs.declared.table.Method.{Method}
-use Rattle.engine.specs.declared.table.Statement.{Statement}
-use Rattle.engine.specs.declared.table.Register.{Register}
-use Rattle.engine.specs.Views.{number, statement}
+use Rattle.property.specs.declared.table.Method.{Method}
+use Rattle.tables.specs.declared.parts.Statement.{Statement}
+use Rattle.tables.specs.declared.parts.Register.{Register}
+use Rattle.tables.specs.Views.{number, statement}
 
 abbrev pub method : Method → ℕ × ℕ
 method m = (m.number, m.arity)

@@ -1,15 +1,22 @@
-// The table of a property, as code holds it.
+// The table of a property.
 ghost use Rattle.std.specs.Prelude.{◌≡◌, ◌≤◌, true, length};
 ghost use Rattle.topl.specs.Table.{is_lawful, empty_table};
-ghost use Rattle.engine.specs.Properties.{table};
+ghost use Rattle.tables.specs.Properties.{table};
+ghost use Rattle.tables.specs.Meant.{meant, names, no_names};
 
-use crate::table::{Method, Register, Statement};
+use crate::parts::{Register, Statement};
+use property::table::{Method, Name, Register as Named};
 use std::alloc::Global;
 
-// The declared methods, the registers of the constants in order of first appearance, and the written statements.
+// What a text writes: the property's name, its methods, its states but for `start` and `error`, and the constants and variables of its registers, by their
+// places in the text; the registers of the constants in order of first appearance, and the written statements.
 #[derive(Drop)]
 pub struct Table {
+    text: Vec<u8>,
+    name: Name,
     methods: Vec<Method>,
+    others: Vec<Name>,
+    registers: Vec<Named>,
     constants: Vec<Register>,
     statements: Vec<Statement>,
     ghost lawful: { is_lawful (table methods.items constants.items statements.items) ≡ true },
@@ -18,10 +25,15 @@ pub struct Table {
 impl Table {
     // The table that no text has filled yet.
     pub fn empty(heap: Global) -> Table
-        ensures { table result.methods.items result.constants.items result.statements.items ≡ empty_table }
+        ensures meant { meant result ≡ empty_table }
+        ensures names { names result ≡ no_names }
     {
         Table {
+            text: Vec::new(heap),
+            name: Name { from: 0, to: 0 },
             methods: Vec::new(heap),
+            others: Vec::new(heap),
+            registers: Vec::new(heap),
             constants: Vec::new(heap),
             statements: Vec::new(heap),
         }
@@ -42,7 +54,7 @@ impl Table {
     }
 
     // The written statements, at most 64.
-    pub(crate) fn statements(&self) -> &[Statement]
+    pub fn statements(&self) -> &[Statement]
         ensures are { result.now ≡ self.now.statements.items }
         ensures few { length result.now ≤ 64 }
     {

