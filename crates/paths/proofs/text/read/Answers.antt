@@ -12,7 +12,7 @@ both ss ts gs hs o e f x = subst (λ (ys : List Statement). FirstOf ys hs o) e (
 pub returns-in-Some : goal.returns-in-Some
 returns-in-Some c = (
   subst (Refuses c.args.text.now) (sym c.into.ensures)
-      (inr (refl, (_, c.in_ok-read.ensures, first c.args.text.now c.read.new.draft _ (both _ _ _ _ (Some c.in-Some.place) c.deref.ensures.value c.deref-2.ensures.value c.in-Some.ensures)))),
+      (inr (refl, (_, c.in_ok-read.ensures, first c.args.text.now c.read.new.draft (Some c.in-Some.place) (both _ _ _ _ (Some c.in-Some.place) c.deref.ensures.value c.deref-2.ensures.value c.in-Some.ensures)))),
   refl,
 )
 
