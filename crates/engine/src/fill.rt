@@ -5,7 +5,7 @@ ghost use Rattle.topl.specs.Lists.{each, ◌∈◌};
 ghost use Rattle.topl.specs.Table.{Event as Happening, Table as TheTable, numbered, implied};
 ghost use Rattle.topl.specs.Runs.{Registers, World, Reach, quiet, calm, calms, fares, lands, skips, moves};
 ghost use Rattle.topl.specs.Rows.{landed, incoming};
-ghost use Rattle.engine.specs.declared.table.Matcher.TheVariants.{Any};
+ghost use Rattle.tables.specs.declared.parts.Matcher.TheVariants.{Any};
 ghost use Rattle.engine.specs.Modes.{mode_of};
 ghost use Rattle.tables.specs.Views.{matcher, statement};
 ghost use Rattle.engine.specs.Views.{stated, Seen};
