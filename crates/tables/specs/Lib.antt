@@ -1,3 +1,4 @@
+pub mod Fits
 pub mod Views
 pub mod Properties
 pub mod Meant

@@ -1,0 +1,3 @@
+pub mod Borrowed
+pub mod Fitted
+pub mod Held
