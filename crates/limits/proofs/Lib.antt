@@ -1,3 +1,3 @@
-pub mod Lists
+pub mod Members
 pub mod Lowering
 pub mod Lawful
