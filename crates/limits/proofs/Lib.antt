@@ -1,1 +1,3 @@
 pub mod Lists
+pub mod Kept
+pub mod Growing
