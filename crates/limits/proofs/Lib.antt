@@ -1,3 +1,4 @@
 pub mod Lists
 pub mod Kept
 pub mod Growing
+pub mod Lines
