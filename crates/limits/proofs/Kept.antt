@@ -86,21 +86,31 @@ abbrev pub Named : List Declared → Partial → Type 0
 Named ms l = (m : Declared) × (m ∈ ms) × (m.number ≡ l.number) × (m.arity ≡ l.arity)
 
 -- A pattern of a label comes next, or is being read: the returned one, or one of a named method's.
-pub record Amid (P : Property) (u : Cursor) : Type 0 where
-  pub stated : Stated P u.starts u.errs u.statement
-  pub labelled : Labelled P.registers u.label
-  pub called : (u.label.count ≡ 0) ⊎ Named P.methods u.label
+pub record InPattern (P : Property) (a b : Bool) (s : Statement) (l : Partial) : Type 0 where
+  pub stated : Stated P a b s
+  pub labelled : Labelled P.registers l
+  pub called : (l.count ≡ 0) ⊎ Named P.methods l
 
 -- A returned pattern has been read, and the method comes next.
-pub record Returned (P : Property) (u : Cursor) : Type 0 where
-  pub stated : Stated P u.starts u.errs u.statement
-  pub labelled : Labelled P.registers u.label
+pub record InReturn (P : Property) (a b : Bool) (s : Statement) (l : Partial) : Type 0 where
+  pub stated : Stated P a b s
+  pub labelled : Labelled P.registers l
 
 -- A method has been named.
-pub record Called (P : Property) (u : Cursor) : Type 0 where
-  pub stated : Stated P u.starts u.errs u.statement
-  pub labelled : Labelled P.registers u.label
-  pub named : Named P.methods u.label
+pub record InCall (P : Property) (a b : Bool) (s : Statement) (l : Partial) : Type 0 where
+  pub stated : Stated P a b s
+  pub labelled : Labelled P.registers l
+  pub named : Named P.methods l
+
+-- The same, of a cursor.
+abbrev pub Amid : Property → Cursor → Type 0
+Amid P u = InPattern P u.starts u.errs u.statement u.label
+
+abbrev pub Returned : Property → Cursor → Type 0
+Returned P u = InReturn P u.starts u.errs u.statement u.label
+
+abbrev pub Called : Property → Cursor → Type 0
+Called P u = InCall P u.starts u.errs u.statement u.label
 
 -- There is room for a method, whose name is new and its number too.
 pub record NewName (ms : List Declared) (w : List ℕ) : Type 0 where

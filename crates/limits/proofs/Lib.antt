@@ -2,3 +2,4 @@ pub mod Lists
 pub mod Kept
 pub mod Growing
 pub mod Lines
+pub mod Labels
