@@ -1,14 +1,14 @@
 -- Every property that an accepted text writes is within the limits.
-use Rattle.std.proofs.Common.{◌≡◌, ℕ, ◌+◌, ◌<◌, ◌≤◌, Bool, true, false, cond, ◌&&◌, ◌||◌, ◌⊎◌, eqb, List, [], ◌∷◌, ◌++◌, length, Some, None, Option, sym, refl, ap, ◌∙◌, subst, inl, inr, ⊎_elim, arith, eqb-true}
+use Rattle.std.proofs.Common.{◌≡◌, ℕ, ◌+◌, ◌≤◌, Bool, true, false, cond, eqb, List, [], ◌∷◌, ◌++◌, length, Some, None, refl, ap, subst, inl, inr, ⊎_elim, arith, eqb-true}
 use Rattle.std.specs.Prelude.{All}
 use Rattle.std.specs.List.{list_any}
 use Rattle.std.proofs.lemmas.Bool.{cases_Bool, and_parts, or_cases}
 use Rattle.std.proofs.lemmas.List.Elements.{All-head, All-tail}
 use Rattle.forms.specs.Forms.{Accepted}
 use Rattle.forms.specs.Grammars.{Takes, stop, go, Faults, here, later, short}
-use Rattle.forms.specs.Pieces.{Piece, head_of}
+use Rattle.forms.specs.Pieces.{head_of}
 use Rattle.forms.proofs.Laws.{apart}
-use Rattle.property.specs.Grammar.{Marked, text, opens, flaws, bytes, ends_at, line_ends, label_ends, property_text}
+use Rattle.property.specs.Grammar.{Marked, text, opens, flaws, bytes, ends_at, label_ends, property_text}
 use Rattle.property.specs.States.{Property, State, nothing_read, moved, closing, closing_at, routed}
 use Rattle.property.specs.Cursors.{met, one_if}
 use Rattle.property.specs.declared.spot.Label.{Label}
@@ -18,9 +18,9 @@ use Rattle.property.specs.declared.spot.Spot.TheVariants as spots
 use Rattle.property.specs.declared.table.Event.TheVariants as events
 use Rattle.property.specs.declared.table.Statement.{Statement}
 use Rattle.limits.specs.Limits.{StatementFits, states, Within}
-use Rattle.limits.proofs.Kept.{Whole, Kept, Begun, At, AtLabel, Good}
+use Rattle.limits.proofs.Kept.{Whole, Kept, At, AtLabel, Good, Sofar}
 use Rattle.limits.proofs.Lines.{Unmarked}
-use Rattle.limits.proofs.Labels.{Met, met_one, ended_kept}
+use Rattle.limits.proofs.Labels.{met_one, ended_kept}
 use Rattle.limits.proofs.Steps.{step_good}
 
 -- Where none is marked, no test holds.
@@ -40,7 +40,8 @@ record Done (P : Property) : Type 0 where
   errs : Bool
   kept : Kept P starts errs
 
-label_done : (l : Label) (p : State) → label_ends l ≡ true → Kept p.sofar p.cursor.starts p.cursor.errs → AtLabel l p → Done (closing_at (spots.Label l) p).sofar
+-- A text that ends in a label.
+label_done : (l : Label) (p : State) → label_ends l ≡ true → Sofar p → AtLabel l p → Done (closing_at (spots.Label l) p).sofar
 label_done labels.Begin p e h a = apart false e refl
 label_done labels.Star p e h a =
     let m = met_one p.sofar p.cursor events.Any h a tt in
@@ -54,7 +55,8 @@ label_done labels.Comma p e h a = apart false e refl
 label_done labels.End p e h a =
     record { starts = p.cursor.starts; errs = p.cursor.errs; kept = ended_kept p.sofar p.cursor (record { kept = h; stated = a.0; some = a.1 }) }
 
-done_at : (t : Spot) (p : State) (s : List ℕ) → ends_at t s ≡ true → Kept p.sofar p.cursor.starts p.cursor.errs → At t p s → Done (closing_at t p).sofar
+-- A text that ends at a spot where it may end.
+done_at : (t : Spot) (p : State) (s : List ℕ) → ends_at t s ≡ true → Sofar p → At t p s → Done (closing_at t p).sofar
 done_at (spots.Head t) p s e h a = apart false e refl
 done_at (spots.Line t) p s e h a = record { starts = p.cursor.starts; errs = p.cursor.errs; kept = h }
 done_at (spots.Route t) p s e h a = apart false e refl
@@ -75,6 +77,7 @@ some_target P a b (s ∷ ss) e h =
     ⊎_elim (λ z. (All-head (Whole P a b) s ss h).read.errs (eqb-true s.target 1 z)) (λ z. some_target P a b ss z (All-tail (Whole P a b) s ss h))
     (or_cases (eqb s.target 1) _ e)
 
+-- A statement that was read whole fits.
 whole_fits : (P : Property) (a b : Bool) (s : Statement) → Whole P a b s → StatementFits P.methods (states P) P.registers s
 whole_fits P a b s h = record {
   some = h.some;
@@ -86,36 +89,38 @@ whole_fits P a b s h = record {
   fit = h.read.fit;
 }
 
+-- There is some statement.
 some_statement : (ss : List Statement) → list_any (λ s. eqb s.source 0) ss ≡ true → 1 ≤ length ss
 some_statement [] e = apart false e refl
 some_statement (s ∷ ss) e = omega arith
 
+-- A property read whole, with a statement from `start` and one to `error`, is within the limits.
 within : (P : Property) → Done P → routed P.statements ≡ true → Within P
 within P d e =
     let k = d.kept in
-    let c = k.counted in
     let r = and_parts (list_any (λ s. eqb s.source 0) P.statements) (list_any (λ s. eqb s.target 1) P.statements) e in
     let a = some_source P d.starts d.errs P.statements r.0 k.statements_fit in
     let b = some_target P d.starts d.errs P.statements r.1 k.statements_fit in
-    let n = c.few_states in
+    let n = k.states.few in
     let x : one_if d.starts ≡ 1 = ap one_if a in
     let y : one_if d.errs ≡ 1 = ap one_if b in
     let few : states P ≤ 16 = omega arith in
     record {
-      few_methods = c.few_methods;
-      methods_fit = c.methods_fit;
-      names_apart = c.names_apart;
-      numbers_apart = c.numbers_apart;
+      few_methods = k.methods.few;
+      methods_fit = k.methods.fit;
+      names_apart = k.methods.names_apart;
+      numbers_apart = k.methods.numbers_apart;
       few_states = few;
-      states_apart = c.states_apart;
-      few_registers = c.few_registers;
-      registers_apart = c.registers_apart;
+      states_apart = k.states.apart;
+      few_registers = k.registers.few;
+      registers_apart = k.registers.apart;
       some_statement = some_statement P.statements r.0;
       few_statements = k.few_statements;
       statements_fit = λ i s l. whole_fits P d.starts d.errs _ (k.statements_fit i s l);
     }
 
 -- THE WHOLE TEXT
+-- What goes on from a good text without a fault ends within the limits.
 goes_on : (p : State) (a : ℕ) (v : Property) (s : List ℕ) → Takes text p a v s → Good p s → ((n k : ℕ) → Faults text p a n k s → ⊥) → Within v
 goes_on p a v s (stop _ _ _ _ e f) g c =
     let y = some_inv (ends_at p.cursor.spot s) (closing p) v f in
@@ -128,24 +133,19 @@ goes_on p a v s (go _ q _ _ x _ sp b r n f t) g c =
     let h = step_good p.cursor.spot p x s sp b r (a + length sp) refl n y.0 g.kept g.here u in
     goes_on q (a + length (sp ++ b)) v r t (subst (λ (q : State). Good q r) y.1 h) (λ m k h. c m (length (sp ++ b) + k) (later p q a m k x s sp b r n f h))
 
+-- Before the text.
 nothing_good : (s : List ℕ) → Good nothing_read s
 nothing_good s = record {
   kept = record {
-    counted = record {
-      few_methods = omega arith;
-      methods_fit = λ k d h. absurd (omega arith);
-      names_apart = tt;
-      numbers_apart = tt;
-      few_states = omega arith;
-      states_apart = tt;
-      few_registers = omega arith;
-      registers_apart = tt;
-    };
+    methods = record { few = omega arith; fit = λ k d h. absurd (omega arith); names_apart = tt; numbers_apart = tt };
+    states = record { few = omega arith; apart = tt };
+    registers = record { few = omega arith; apart = tt };
     few_statements = omega arith;
     statements_fit = λ k d h. absurd (omega arith);
   };
   here = tt;
 }
 
+-- Every property that an accepted text writes is within the limits.
 pub accepted_within : (t : List ℕ) (P : Property) → Accepted property_text t P → Within P
 accepted_within t P h = goes_on nothing_read 0 P t h.writes (nothing_good t) (λ n k f. h.sound n k (inr (inr f)))

@@ -1,8 +1,6 @@
 -- What holds of a property text as far as it was read.
-use Rattle.std.proofs.Common.{◌≡◌, ℕ, ◌+◌, ◌<◌, ◌≤◌, Bool, true, false, ◌⊎◌, List, [], ◌∷◌, ◌++◌, map, length, get_or, take, sym, refl, ap, ◌∙◌, subst, arith}
+use Rattle.std.proofs.Common.{◌≡◌, ℕ, ◌+◌, ◌<◌, ◌≤◌, Bool, true, false, ◌⊎◌, List, map, length, get_or, ap, ◌∙◌, arith}
 use Rattle.std.specs.Prelude.{All}
-use Rattle.std.proofs.lemmas.List.{get_or_append_left}
-use mathlib.Core.List.Memᴰ
 use Rattle.topl.specs.Lists.{◌∈◌, each, Distinct}
 use Rattle.topl.specs.declared.pattern.Pattern.{Pattern}
 use Rattle.topl.specs.declared.pattern.Pattern.TheVariants as patterns
@@ -23,7 +21,7 @@ use Rattle.property.specs.declared.table.Event.{Event}
 use Rattle.property.specs.declared.table.Event.TheVariants as events
 use Rattle.property.specs.declared.table.Slot.{Slot}
 use Rattle.property.specs.declared.table.Statement.{Statement}
-use Rattle.limits.specs.Limits.{writes, PatternFits, SlotFits, CallFits, AnswerFits, EventFits, MethodFits, states}
+use Rattle.limits.specs.Limits.{writes, PatternFits, SlotFits, EventFits, MethodFits, states}
 use Rattle.limits.specs.Tables.{spanned}
 
 -- A statement as far as it was read, under these methods, so many states and these registers; a and b say whether `start` and `error` have been written.
@@ -41,16 +39,22 @@ pub record Partly (ms : List Declared) (n : ℕ) (gs : List Key) (a b : Bool) (s
 abbrev pub Read : Property → Bool → Bool → Statement → Type 0
 Read P a b s = Partly P.methods (states P) P.registers a b s
 
--- Methods, states and registers within the limits.
-pub record Counted (ms : List Declared) (ws : List (List ℕ)) (gs : List Key) (a b : Bool) : Type 0 where
-  pub few_methods : length ms ≤ 32
-  pub methods_fit : All MethodFits ms
+-- Methods within the limits.
+pub record MethodsKept (ms : List Declared) : Type 0 where
+  pub few : length ms ≤ 32
+  pub fit : All MethodFits ms
   pub names_apart : Distinct (map (λ m. m.name) ms)
   pub numbers_apart : Distinct (map (λ m. m.number) ms)
-  pub few_states : length ws + (one_if a + one_if b) ≤ 16
-  pub states_apart : Distinct ws
-  pub few_registers : length gs ≤ 8
-  pub registers_apart : Distinct gs
+
+-- States within the limits: ws are those besides `start` and `error`.
+pub record StatesKept (ws : List (List ℕ)) (a b : Bool) : Type 0 where
+  pub few : length ws + (one_if a + one_if b) ≤ 16
+  pub apart : Distinct ws
+
+-- Registers within the limits.
+pub record RegistersKept (gs : List Key) : Type 0 where
+  pub few : length gs ≤ 8
+  pub apart : Distinct gs
 
 -- A statement that was read whole.
 pub record Whole (P : Property) (a b : Bool) (s : Statement) : Type 0 where
@@ -59,9 +63,15 @@ pub record Whole (P : Property) (a b : Bool) (s : Statement) : Type 0 where
 
 -- A property as far as it was read.
 pub record Kept (P : Property) (a b : Bool) : Type 0 where
-  pub counted : Counted P.methods P.others P.registers a b
+  pub methods : MethodsKept P.methods
+  pub states : StatesKept P.others a b
+  pub registers : RegistersKept P.registers
   pub few_statements : length P.statements ≤ 64
   pub statements_fit : All (Whole P a b) P.statements
+
+-- The same, of a position.
+abbrev pub Sofar : State → Type 0
+Sofar p = Kept p.sofar p.cursor.starts p.cursor.errs
 
 -- A statement is being read, and there is room for it.
 pub record Stated (P : Property) (a b : Bool) (s : Statement) : Type 0 where
@@ -112,15 +122,17 @@ Returned P u = InReturn P u.starts u.errs u.statement u.label
 abbrev pub Called : Property → Cursor → Type 0
 Called P u = InCall P u.starts u.errs u.statement u.label
 
--- There is room for a method, whose name is new and its number too.
+-- There is room for a method of this name, which no method has.
 pub record NewName (ms : List Declared) (w : List ℕ) : Type 0 where
   pub room : length ms < 32
   pub other : ¬ (w ∈ map (λ m. m.name) ms)
 
+-- A number of a method, which no method has.
 pub record NewNumber (ms : List Declared) (n : ℕ) : Type 0 where
   pub small : n ≤ 65535
   pub other : ¬ (n ∈ map (λ m. m.number) ms)
 
+-- What holds besides in a line.
 abbrev pub AtLine : Line → State → Type 0
 AtLine lines.Ending p = Unit {0}
 AtLine lines.Fresh p = Unit {0}
@@ -128,9 +140,11 @@ AtLine lines.MethodName p = length p.sofar.methods < 32
 AtLine lines.MethodNumber p = NewName p.sofar.methods p.word
 AtLine (lines.MethodArity n) p = NewName p.sofar.methods p.word × NewNumber p.sofar.methods n
 
+-- A statement is being read, of a position.
 abbrev pub Begun : State → Type 0
 Begun p = Stated p.sofar p.cursor.starts p.cursor.errs p.cursor.statement
 
+-- What holds besides in a label.
 abbrev pub AtLabel : Label → State → Type 0
 AtLabel labels.Begin p = Begun p
 AtLabel labels.Star p = Begun p
@@ -141,7 +155,7 @@ AtLabel labels.Open p = Called p.sofar p.cursor
 AtLabel labels.Comma p = Called p.sofar p.cursor
 AtLabel labels.End p = Begun p × (1 ≤ p.cursor.statement.span)
 
--- After `!` and `<` the name that comes in the bytes s has a register, or there is room for one.
+-- What holds besides in a pattern: after `!` and `<` the name that comes in the bytes s has a register, or there is room for one.
 abbrev pub AtInner : Inner → State → List ℕ → Type 0
 AtInner inners.Returned p s = Amid p.sofar p.cursor
 AtInner inners.First p s = Amid p.sofar p.cursor × Named p.sofar.methods p.cursor.label
@@ -160,7 +174,7 @@ At (spots.Inner i) p s = AtInner i p s
 
 -- What holds of a text as far as it was read, with the bytes s to come.
 pub record Good (p : State) (s : List ℕ) : Type 0 where
-  pub kept : Kept p.sofar p.cursor.starts p.cursor.errs
+  pub kept : Sofar p
   pub here : At p.cursor.spot p s
 
 -- More methods, states and registers: those that were there stay.
@@ -171,6 +185,7 @@ pub record Grows (P Q : Property) : Type 0 where
   pub same : (r : ℕ) (d : Key) → r < length P.registers → get_or Q.registers r d ≡ get_or P.registers r d
 
 module _ (P Q : Property) (g : Grows P Q) where
+  -- Patterns, events, statements and labels that fit still fit.
   pattern_grows : (x : Pattern ℕ) → PatternFits P.registers x → PatternFits Q.registers x
   pattern_grows patterns.Any h = tt
   pattern_grows (patterns.Write r) h = (g.registers r h.0, λ d. ap (λ (k : Key). k.constant) (g.same r d h.0) ∙ h.1 d)

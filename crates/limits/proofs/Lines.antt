@@ -1,15 +1,13 @@
 -- A piece of a first line, of a method's line, or between a statement's source and its first label leaves a good text good.
-use Rattle.std.proofs.Common.{◌≡◌, ℕ, ◌+◌, ◌<◌, ◌≤◌, Bool, true, false, cond, ◌||◌, eqb, ltb, leb, List, [], ◌∷◌, ◌++◌, map, length, codes, sym, refl, ap, ◌∙◌, subst, arith}
-use Rattle.std.proofs.lemmas.Bool.{or_parts, cond_both, eq-eqb, leb-true, leb-false, ltb-false}
+use Rattle.std.proofs.Common.{◌≡◌, ℕ, ◌<◌, ◌≤◌, Bool, true, false, cond, ◌||◌, eqb, ltb, leb, List, [], ◌∷◌, length, sym, refl, subst, arith}
+use Rattle.std.proofs.lemmas.Bool.{or_parts, or_left, or_right, cond_both, eq-eqb, leb-false, ltb-false}
 use mathlib.Core.List.Memᴰ
-use Rattle.topl.specs.Lists.{◌∈◌}
 use Rattle.forms.specs.Bytes.{value}
 use Rattle.forms.proofs.Laws.{apart}
 use Rattle.property.specs.Cursors.{sourced, targeted, to}
-use Rattle.property.specs.Grammar.{Marked, line_flaws, route_flaws, source_flaws, full}
+use Rattle.property.specs.Grammar.{line_flaws, route_flaws, source_flaws, full}
 use Rattle.property.specs.States.{Declared, Property, State, at, turned, named, is_start, is_error, state_number, visited, crowded, declares, leaving, reaching, capped, head_moved, line_moved, route_moved, method_place}
-use Rattle.property.specs.Words.{same, reserved, long}
-use Rattle.property.specs.declared.cursor.Cursor.{Cursor}
+use Rattle.property.specs.Words.{same, long}
 use Rattle.property.specs.declared.spot.Head.{Head}
 use Rattle.property.specs.declared.spot.Head.TheVariants as heads
 use Rattle.property.specs.declared.spot.Line.{Line}
@@ -20,7 +18,7 @@ use Rattle.property.specs.declared.spot.Spot.TheVariants as spots
 use Rattle.property.specs.declared.table.Statement.{Statement}
 use Rattle.limits.specs.Limits.{states}
 use Rattle.limits.proofs.Lists.{none_passes, not_any}
-use Rattle.limits.proofs.Kept.{Read, Kept, Stated, NewName, NewNumber, AtLine, Begun, At, Good, Grows, all_grow, read_grows}
+use Rattle.limits.proofs.Kept.{Read, Kept, NewName, NewNumber, AtLine, Begun, At, Good, Grows, all_grow, read_grows, Sofar}
 use Rattle.limits.proofs.Growing.{Visits, visits, same_self, number_start, number_error, declared_kept}
 
 -- No test for a fault holds.
@@ -36,12 +34,14 @@ pub unmarked_else : (b : Bool) (fs gs : List (Bool × ℕ)) → b ≡ false → 
 unmarked_else b fs gs e h = subst (λ (x : Bool). Unmarked (cond x fs gs)) e h
 
 -- THE FIRST LINE
+-- The name of a property is no limit.
 named_kept : (w : List ℕ) (P : Property) (a b : Bool) → Kept P a b → Kept (named w P) a b
 named_kept w P a b h =
     let g : Grows P (named w P) = record { methods = λ m x. x; states = omega arith; registers = λ r x. x; same = λ r d x. refl } in
-    record { counted = h.counted; few_statements = h.few_statements; statements_fit = all_grow P (named w P) g a b a b (λ x. x) (λ x. x) P.statements h.statements_fit }
+    record { methods = h.methods; states = h.states; registers = h.registers; few_statements = h.few_statements; statements_fit = all_grow P (named w P) g a b a b (λ x. x) (λ x. x) P.statements h.statements_fit }
 
-pub head_good : (h : Head) (p : State) (w : List ℕ) (c : ℕ) (r : List ℕ) → p.cursor.spot ≡ spots.Head h → Kept p.sofar p.cursor.starts p.cursor.errs
+-- A piece of the first line.
+pub head_good : (h : Head) (p : State) (w : List ℕ) (c : ℕ) (r : List ℕ) → p.cursor.spot ≡ spots.Head h → Sofar p
     → Good (head_moved h p w c) r
 head_good heads.Margin p w c r e k =
     cond_both (eqb c 32) p.cursor (to (spots.Head (heads.Keyword 1)) p.cursor) (λ u. Good (at u p) r)
@@ -65,15 +65,12 @@ sourced_read p w Q v e =
       to = t;
       leaves = λ x. apart (is_error w) (number_error p.sofar.others w x) e;
       fit = λ k d l. absurd (omega arith);
-      starts = λ x. or_second p.cursor.starts (is_start w) (number_start p.sofar.others w x);
+      starts = λ x. or_right p.cursor.starts (is_start w) (number_start p.sofar.others w x);
       errs = λ x. absurd (omega arith);
     }
-  where
-    or_second : (a s : Bool) → s ≡ true → a || s ≡ true
-    or_second true s h = refl
-    or_second false s h = h
 
-leaving_good : (p : State) (w r : List ℕ) → Kept p.sofar p.cursor.starts p.cursor.errs → Unmarked (source_flaws p w) → Good (leaving w p) r
+-- The source of a statement.
+leaving_good : (p : State) (w r : List ℕ) → Sofar p → Unmarked (source_flaws p w) → Good (leaving w p) r
 leaving_good p w r k u =
     let y = or_parts (long w) (full p w) u.1.0 in
     let z = or_parts (leb 64 (length p.sofar.statements)) (crowded p w) y.1 in
@@ -95,14 +92,11 @@ targeted_read p w Q v s h =
       leaves = h.leaves;
       fit = h.fit;
       starts = h.starts;
-      errs = λ x. or_second p.cursor.errs (is_error w) (number_error p.sofar.others w x);
+      errs = λ x. or_right p.cursor.errs (is_error w) (number_error p.sofar.others w x);
     }
-  where
-    or_second : (a s : Bool) → s ≡ true → a || s ≡ true
-    or_second true s h = refl
-    or_second false s h = h
 
-reaching_good : (p : State) (w r : List ℕ) → Kept p.sofar p.cursor.starts p.cursor.errs → Begun p → crowded p w ≡ false → Good (reaching w p) r
+-- The target of a statement.
+reaching_good : (p : State) (w r : List ℕ) → Sofar p → Begun p → crowded p w ≡ false → Good (reaching w p) r
 reaching_good p w r k h c =
     let v = visits p w k c in
     let s = v.statements in
@@ -110,26 +104,26 @@ reaching_good p w r k h c =
     let room : length (visited w p.sofar).statements < 64 = omega arith in
     let a = p.cursor.starts in
     let b = p.cursor.errs in
-    let read = read_grows p.sofar (visited w p.sofar) v.grows a b (a || is_start w) (b || is_error w) (or_first a (is_start w)) (or_first b (is_error w)) p.cursor.statement h.read in
+    let read = read_grows p.sofar (visited w p.sofar) v.grows a b (a || is_start w) (b || is_error w) (or_left a (is_start w)) (or_left b (is_error w)) p.cursor.statement h.read in
     record { kept = v.kept; here = record { room = room; read = targeted_read p w (visited w p.sofar) v p.cursor.statement read } }
-  where
-    or_first : (a s : Bool) → a ≡ true → a || s ≡ true
-    or_first a s e = ap (λ (b : Bool). b || s) e
 
-pub route_good : (t : Route) (p : State) (w r : List ℕ) → Kept p.sofar p.cursor.starts p.cursor.errs → Begun p → Unmarked (route_flaws t p w) → Good (route_moved t p w) r
+-- A piece between a source and a first label.
+pub route_good : (t : Route) (p : State) (w r : List ℕ) → Sofar p → Begun p → Unmarked (route_flaws t p w) → Good (route_moved t p w) r
 route_good routes.Minus p w r k h u = record { kept = k; here = h }
 route_good routes.Greater p w r k h u = record { kept = k; here = h }
 route_good routes.Target p w r k h u = reaching_good p w r k h (or_parts (long w) (crowded p w) u.1.0).1
 route_good routes.Colon p w r k h u = record { kept = k; here = h }
 
 -- METHODS
-fresh_good : (p : State) (w r : List ℕ) → Kept p.sofar p.cursor.starts p.cursor.errs → Unmarked (line_flaws lines.Fresh p w) → Good (line_moved lines.Fresh p w) r
+-- The first word of a line.
+fresh_good : (p : State) (w r : List ℕ) → Sofar p → Unmarked (line_flaws lines.Fresh p w) → Good (line_moved lines.Fresh p w) r
 fresh_good p w r k u =
     let full = leb 32 (length p.sofar.methods) in
     cond_both (declares p w) (turned (spots.Line lines.MethodName) p) (leaving w p) (λ q. Good q r)
     (λ e. record { kept = k; here = leb-false 32 (length p.sofar.methods) (unmarked_then (declares p w) ((full, 11) ∷ []) (source_flaws p w) e u).0 })
     (λ e. leaving_good p w r k (unmarked_else (declares p w) ((full, 11) ∷ []) (source_flaws p w) e u))
 
+-- A name that no method has.
 new_name : (P : Property) (w : List ℕ) → length P.methods < 32 → ltb (method_place P w) (length P.methods) ≡ false → NewName P.methods w
 new_name P w h e = record {
   room = h;
@@ -139,6 +133,7 @@ new_name P w h e = record {
       (none_passes (λ (m : Declared). same w m.name) P.methods (ltb-false (method_place P w) (length P.methods) e) x.0 x.1);
 }
 
+-- A number that no method has.
 new_number : (p : State) (w : List ℕ) → Unmarked (line_flaws lines.MethodNumber p w) → NewNumber p.sofar.methods (capped w)
 new_number p w u =
     let s = ltb-false 65535 (value w) u.0 in
@@ -151,12 +146,14 @@ new_number p w u =
     })
     (λ e. let l = leb-false (value w) 65535 e in absurd (omega arith))
 
+-- An arity of five at most.
 few_parameters : (w : List ℕ) → ltb 5 (value w) ≡ false → capped w ≤ 5
 few_parameters w e =
     let s = ltb-false 5 (value w) e in
     cond_both (leb (value w) 65535) (value w) 65536 (λ (n : ℕ). n ≤ 5) (λ _. s) (λ x. let l = leb-false (value w) 65535 x in absurd (omega arith))
 
-pub line_good : (l : Line) (p : State) (w r : List ℕ) → Kept p.sofar p.cursor.starts p.cursor.errs → AtLine l p → Unmarked (line_flaws l p w) → Good (line_moved l p w) r
+-- A piece of a method's line, or of a line's end.
+pub line_good : (l : Line) (p : State) (w r : List ℕ) → Sofar p → AtLine l p → Unmarked (line_flaws l p w) → Good (line_moved l p w) r
 line_good lines.Ending p w r k h u = record { kept = k; here = tt }
 line_good lines.Fresh p w r k h u = fresh_good p w r k u
 line_good lines.MethodName p w r k h u = record { kept = k; here = new_name p.sofar w h u.1.1.0 }

@@ -1,16 +1,14 @@
 -- Every piece with no fault leaves a good text good.
-use Rattle.std.proofs.Common.{◌≡◌, ℕ, zero, suc, ◌+◌, ◌<◌, ◌≤◌, Bool, true, false, cond, not, ◌&&◌, ◌||◌, ◌⊎◌, eqb, ltb, leb, List, [], ◌∷◌, ◌++◌, length, get_or, codes, sym, refl, ap, ◌∙◌, subst, inl, inr, ⊎_elim, arith}
-use Rattle.std.specs.List.{position_or_len}
-use Rattle.std.proofs.lemmas.Bool.{or_parts, cond_both, eqb-false, ltb-true, not-false}
+use Rattle.std.proofs.Common.{◌≡◌, ℕ, zero, suc, ◌<◌, Bool, true, false, cond, not, ◌&&◌, ◌||◌, eqb, ltb, leb, List, [], ◌∷◌, length, get_or, codes, refl, ap, ◌∙◌, inl, inr, ⊎_elim, arith}
+use Rattle.std.proofs.lemmas.Bool.{cond_both, eqb-false, ltb-true, not-false}
 use mathlib.Core.List.Memᴰ
-use Rattle.topl.specs.Lists.{◌∈◌, each}
-use Rattle.forms.specs.Bytes.{space, letter, small}
+use Rattle.topl.specs.Lists.{◌∈◌}
+use Rattle.forms.specs.Bytes.{space}
 use Rattle.forms.specs.Pieces.{Piece, word, number, mark, head_of, Next}
 use Rattle.property.specs.Cursors.{opened, naming, labelled, finished, met, to}
 use Rattle.property.specs.Grammar.{bytes, opens_at, tight_at, flaws_at, label_flaws, inner_flaws, begun_flaws, pattern_flaws, closing_flaws}
-use Rattle.property.specs.States.{Declared, Property, State, at, turned, method_of, method_place, callee_at, calling, whole_begins, begins, ends_statement, moved_at, label_moved, inner_moved}
+use Rattle.property.specs.States.{State, at, turned, method_of, method_place, callee_at, calling, whole_begins, begins, ends_statement, moved_at, label_moved, inner_moved}
 use Rattle.property.specs.Words.{same, past, first_byte}
-use Rattle.property.specs.declared.cursor.Cursor.{Cursor}
 use Rattle.property.specs.declared.spot.Inner.{Inner}
 use Rattle.property.specs.declared.spot.Inner.TheVariants as inners
 use Rattle.property.specs.declared.spot.Kind.{Kind}
@@ -20,18 +18,18 @@ use Rattle.property.specs.declared.spot.Label.TheVariants as labels
 use Rattle.property.specs.declared.spot.Spot.{Spot}
 use Rattle.property.specs.declared.spot.Spot.TheVariants as spots
 use Rattle.property.specs.declared.table.Event.TheVariants as events
-use Rattle.limits.specs.Limits.{writes}
-use Rattle.limits.proofs.Kept.{Kept, Labelled, Named, InPattern, Amid, Returned, Called, Begun, At, AtLabel, AtInner, Good}
-use Rattle.limits.proofs.Lines.{Unmarked, unmarked_then, unmarked_else, head_good, line_good, route_good}
+use Rattle.limits.proofs.Kept.{Sofar, Named, Amid, Returned, Called, Begun, At, AtLabel, AtInner, Good}
+use Rattle.limits.proofs.Lines.{Unmarked, unmarked_else, head_good, line_good, route_good}
 use Rattle.limits.proofs.Labels.{Met, met_one, opened_labelled, naming_labelled, finished_good, ended_good}
 use Rattle.limits.proofs.Patterns.{begins_good, opening_pattern, anew_pattern, opening_begun, negated_room, quoted_room, negated_good, constant_good}
 
 -- LABELS
 -- An event of any kind.
-any_met : (p : State) → Kept p.sofar p.cursor.starts p.cursor.errs → Begun p → Met p.sofar (met events.Any p.cursor)
+any_met : (p : State) → Sofar p → Begun p → Met p.sofar (met events.Any p.cursor)
 any_met p k h = met_one p.sofar p.cursor events.Any k h tt
 
-begin_good : (p : State) (w : List ℕ) (c k : ℕ) (r : List ℕ) → Kept p.sofar p.cursor.starts p.cursor.errs → Begun p → Unmarked (label_flaws labels.Begin p w c r)
+-- The beginning of a label.
+begin_good : (p : State) (w : List ℕ) (c k : ℕ) (r : List ℕ) → Sofar p → Begun p → Unmarked (label_flaws labels.Begin p w c r)
     → Good (label_moved labels.Begin p w c k) r
 begin_good p w c k r h b u =
     let span = p.cursor.statement.span in
@@ -54,7 +52,8 @@ begin_good p w c k r h b u =
     begins_good w k z r h (record { stated = b; labelled = opened_labelled p.sofar.registers kinds.Both 0; called = inl refl }) c
     (opening_begun (leb 3 span) p w c r v) (λ _ _ _ _ m. absurd (Memᴰ.not-nil m)))))
 
-star_good : (p : State) (w : List ℕ) (c k : ℕ) (r : List ℕ) → Kept p.sofar p.cursor.starts p.cursor.errs → Begun p → Good (label_moved labels.Star p w c k) r
+-- After `*`.
+star_good : (p : State) (w : List ℕ) (c k : ℕ) (r : List ℕ) → Sofar p → Begun p → Good (label_moved labels.Star p w c k) r
 star_good p w c k r h b =
     let m = any_met p h b in
     let x = at (to (spots.Label labels.Equals) (labelled (opened kinds.Both 1) p.cursor)) p in
@@ -70,12 +69,14 @@ at_place [] i d h = absurd (omega arith)
 at_place (x ∷ xs) zero d h = Memᴰ.head refl
 at_place (x ∷ xs) (suc i) d h = Memᴰ.tail (at_place xs i d (omega arith))
 
-callee_good : (d : Kind) (p : State) (r : List ℕ) → Kept p.sofar p.cursor.starts p.cursor.errs → Called p.sofar p.cursor → Good (at (callee_at d p.cursor) p) r
+-- A label whose method is named goes on.
+callee_good : (d : Kind) (p : State) (r : List ℕ) → Sofar p → Called p.sofar p.cursor → Good (at (callee_at d p.cursor) p) r
 callee_good kinds.Call p r h c = record { kept = h; here = c }
 callee_good kinds.Both p r h c = record { kept = h; here = c }
 callee_good kinds.Return p r h c = finished_good p r h c
 
-calling_good : (p : State) (w r : List ℕ) → Kept p.sofar p.cursor.starts p.cursor.errs → Returned p.sofar p.cursor
+-- The method of a label.
+calling_good : (p : State) (w r : List ℕ) → Sofar p → Returned p.sofar p.cursor
     → not (ltb (method_place p.sofar w) (length p.sofar.methods)) ≡ false → Good (calling w p) r
 calling_good p w r h c e =
     let m = method_of p.sofar w in
@@ -85,13 +86,15 @@ calling_good p w r h c e =
     callee_good p.cursor.label.kind (at (labelled l p.cursor) p) r h
     (record { stated = c.stated; labelled = naming_labelled p.sofar.registers m.number m.arity p.cursor.label c.labelled; named = named })
 
-comma_good : (p : State) (c : ℕ) (r : List ℕ) → Kept p.sofar p.cursor.starts p.cursor.errs → Called p.sofar p.cursor
+-- After a parameter.
+comma_good : (p : State) (c : ℕ) (r : List ℕ) → Sofar p → Called p.sofar p.cursor
     → Good (at (cond (eqb c 44) (to (spots.Inner inners.Param) p.cursor) (finished p.cursor)) p) r
 comma_good p c r h a =
     cond_both (eqb c 44) (to (spots.Inner inners.Param) p.cursor) (finished p.cursor) (λ u. Good (at u p) r)
     (λ _. record { kept = h; here = record { stated = a.stated; labelled = a.labelled; called = inr a.named } }) (λ _. finished_good p r h a)
 
-label_good : (l : Label) (p : State) (w : List ℕ) (c k : ℕ) (r : List ℕ) → Kept p.sofar p.cursor.starts p.cursor.errs → AtLabel l p → Unmarked (label_flaws l p w c r)
+-- A piece of a label.
+label_good : (l : Label) (p : State) (w : List ℕ) (c k : ℕ) (r : List ℕ) → Sofar p → AtLabel l p → Unmarked (label_flaws l p w c r)
     → Good (label_moved l p w c k) r
 label_good labels.Begin p w c k r h a u = begin_good p w c k r h a u
 label_good labels.Star p w c k r h a u = star_good p w c k r h a
@@ -105,26 +108,32 @@ label_good labels.End p w c k r h a u =
     ended_good p r (record { kept = h; stated = a.0; some = a.1 }))
 
 -- PATTERNS
-pattern_good : (p : State) (w : List ℕ) (c k : ℕ) (r : List ℕ) → c ≡ first_byte w → Kept p.sofar p.cursor.starts p.cursor.errs → Amid p.sofar p.cursor
+-- The beginning of a pattern.
+pattern_good : (p : State) (w : List ℕ) (c k : ℕ) (r : List ℕ) → c ≡ first_byte w → Sofar p → Amid p.sofar p.cursor
     → Unmarked (pattern_flaws false p w c r) → Good (begins w c k p) r
 pattern_good p w c k r e h a u = begins_good w k p r h a c (opening_pattern false p w c r u) (anew_pattern false p w c r e a.labelled u)
 
-first_good : (p : State) (w : List ℕ) (c k : ℕ) (r : List ℕ) → c ≡ first_byte w → Kept p.sofar p.cursor.starts p.cursor.errs → AtInner inners.First p r
+-- The first parameter, or a closing bracket.
+first_good : (p : State) (w : List ℕ) (c k : ℕ) (r : List ℕ) → c ≡ first_byte w → Sofar p → AtInner inners.First p r
     → Unmarked (inner_flaws inners.First p w c r) → Good (inner_moved inners.First p w c k) r
 first_good p w c k r e h a u =
     cond_both (eqb c 41) (at (finished p.cursor) p) (begins w c k p) (λ q. Good q r)
     (λ _. finished_good p r h (record { stated = a.0.stated; labelled = a.0.labelled; named = a.1 })) (λ f.
     pattern_good p w c k r e h a.0 (unmarked_else (eqb c 41) (closing_flaws p.cursor) (pattern_flaws false p w c r) f u))
 
-unquote_good : (p : State) (r : List ℕ) → Kept p.sofar p.cursor.starts p.cursor.errs → AtInner inners.Unquote p r
+-- The end of a constant.
+unquote_good : (p : State) (r : List ℕ) → Sofar p → AtInner inners.Unquote p r
     → Good (turned (spots.Label (cond (eqb p.cursor.label.count 1) labels.Becomes labels.Comma)) p) r
 unquote_good p r h a =
     cond_both (eqb p.cursor.label.count 1) labels.Becomes labels.Comma (λ l. Good (turned (spots.Label l) p) r) (λ _. record { kept = h; here = a.0 }) (λ e.
-    record { kept = h; here = record {
-      stated = a.0.stated;
-      labelled = a.0.labelled;
-      named = ⊎_elim (λ z. absurd (eqb-false p.cursor.label.count 1 e z)) (λ m. m) a.1;
-    } })
+    record {
+      kept = h;
+      here = record {
+        stated = a.0.stated;
+        labelled = a.0.labelled;
+        named = ⊎_elim (λ z. absurd (eqb-false p.cursor.label.count 1 e z)) (λ m. m) a.1;
+      };
+    })
 
 -- A piece begins with the first of its bytes.
 first_of_bytes : (x : Piece) → head_of x ≡ first_byte (bytes x)
@@ -134,8 +143,9 @@ first_of_bytes (number []) = refl
 first_of_bytes (number (b ∷ d)) = refl
 first_of_bytes (mark m) = refl
 
+-- A piece of a pattern.
 inner_good : (i : Inner) (p : State) (x : Piece) (s sp b r : List ℕ) (k : ℕ) → Next false x s sp b r → opens_at (spots.Inner i) (head_of x) ≡ true
-    → Kept p.sofar p.cursor.starts p.cursor.errs → AtInner i p s → Unmarked (inner_flaws i p (bytes x) (head_of x) r) → Good (inner_moved i p (bytes x) (head_of x) k) r
+    → Sofar p → AtInner i p s → Unmarked (inner_flaws i p (bytes x) (head_of x) r) → Good (inner_moved i p (bytes x) (head_of x) k) r
 inner_good inners.Returned p x s sp b r k n o h a u = pattern_good p (bytes x) (head_of x) k r (first_of_bytes x) h a u
 inner_good inners.First p x s sp b r k n o h a u = first_good p (bytes x) (head_of x) k r (first_of_bytes x) h a u
 inner_good inners.Param p x s sp b r k n o h a u = pattern_good p (bytes x) (head_of x) k r (first_of_bytes x) h a u
@@ -147,7 +157,7 @@ inner_good inners.Unquote p x s sp b r k n o h a u = unquote_good p r h a
 
 -- At each spot.
 pub step_good : (t : Spot) (p : State) (x : Piece) (s sp b r : List ℕ) (k : ℕ) → p.cursor.spot ≡ t → Next (tight_at t) x s sp b r → opens_at t (head_of x) ≡ true
-    → Kept p.sofar p.cursor.starts p.cursor.errs → At t p s → Unmarked (flaws_at t p (bytes x) (head_of x) r) → Good (moved_at t p (bytes x) (head_of x) k) r
+    → Sofar p → At t p s → Unmarked (flaws_at t p (bytes x) (head_of x) r) → Good (moved_at t p (bytes x) (head_of x) k) r
 step_good (spots.Head t) p x s sp b r k e n o h a u = head_good t p (bytes x) (head_of x) r e h
 step_good (spots.Line t) p x s sp b r k e n o h a u = line_good t p (bytes x) r h a u
 step_good (spots.Route t) p x s sp b r k e n o h a u = route_good t p (bytes x) r h a u
