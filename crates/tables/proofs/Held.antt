@@ -1,16 +1,14 @@
 -- The table of a draft is that of the property that it has read.
-use Rattle.std.proofs.Common.{◌≡◌, ℕ, List, [], ◌∷◌, map, refl, ap, sym, ◌∙◌, vec_items}
-use Rattle.topl.specs.Table as T
+use Rattle.std.proofs.Common.{◌≡◌, ℕ, List, map, ap, sym, ◌∙◌, vec_items}
 use Rattle.property.specs.Views.{declared, key_of, sofar}
 use Rattle.property.specs.declared.draft.Draft.{Draft}
-use Rattle.property.specs.declared.table.Method.{Method}
-use Rattle.limits.proofs.Lists.{map_twice}
+use Rattle.limits.proofs.Members.{map_twice}
 use Rattle.limits.specs.Tables as by
 use Rattle.limits.specs.Tables.{constants_from, table_of}
 use Rattle.property.specs.declared.table.Register.{Register as Named}
 use Rattle.property.specs.declared.table.Statement.{Statement as Written}
 use Rattle.tables.specs.Meant.{names_of}
-use Rattle.tables.specs.Properties.{method, table}
+use Rattle.tables.specs.Properties.{table}
 use Rattle.tables.specs.Views as views
 use Rattle.tables.specs.declared.parts.Register.{Register}
 use Rattle.tables.specs.declared.parts.Statement.{Statement}

@@ -1,3 +1,3 @@
-pub mod Borrowed
+pub mod Calling
 pub mod Fitted
 pub mod Held

@@ -1,5 +1,5 @@
 -- What of a property fits a table: eight registers, numbers up to 65,535, at most five parameters, one to four events, sixteen states.
-use Rattle.std.specs.Prelude.{◌≡◌, ℕ, ◌<◌, ◌≤◌, List, length, All}
+use Rattle.std.specs.Prelude.{◌≡◌, ℕ, ◌<◌, ◌≤◌, length, All}
 use Rattle.topl.specs.declared.pattern.Pattern.{Pattern}
 use Rattle.topl.specs.declared.pattern.Pattern.TheVariants as patterns
 use Rattle.property.specs.declared.table.Answer.{Answer}

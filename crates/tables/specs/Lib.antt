@@ -1,4 +1,5 @@
+pub mod Called
 pub mod Fits
-pub mod Views
-pub mod Properties
 pub mod Meant
+pub mod Properties
+pub mod Views

@@ -1,4 +1,4 @@
-use Rattle.tables.proofs.Borrowed.{accepted_within}
+use Rattle.limits.proofs.Accepted.{accepted_within}
 use Rattle.property.specs.Views.{sofar}
 use Rattle.tables.proofs.text.read.Goals as goal
 

@@ -1,4 +1,4 @@
-use Rattle.std.proofs.Common.{◌≡◌, List, All, ap, sym, ◌∙◌, subst, vec_items}
+use Rattle.std.proofs.Common.{List, All, ap, sym, ◌∙◌, subst}
 use Rattle.property.specs.Views.{sofar}
 use Rattle.property.specs.declared.table.Statement.{Statement}
 use Rattle.topl.specs.Table.{is_lawful}
