@@ -1,6 +1,6 @@
 // What people ask of a table: names and counts.
-ghost use Rattle.std.specs.Prelude.{◌≡◌, ◌+◌, ◌==◌, length, find};
-ghost use Rattle.std.specs.Option.{option_copied};
+ghost use Rattle.std.specs.Prelude.{◌≡◌, ◌+◌, length};
+ghost use Rattle.std.specs.Option.{option_copied, option_map};
 ghost use Rattle.property.specs.Views.{spelled as spelling};
 ghost use Rattle.tables.specs.Called as called;
 ghost use Rattle.tables.specs.Meant.{names};
@@ -26,7 +26,7 @@ impl Table {
 
     // The method with a number.
     fn method(&self, number: u32) -> Option<Method>
-        ensures { result ≡ find (λ m. m.number == number) self.now.methods.items }
+        ensures { option_map (λ m. spelling self.now.text.items m.name) result ≡ called.method_name (names self.now) number }
     {
         self.methods.iter().find(|m| m.number == number).copied()
     }
