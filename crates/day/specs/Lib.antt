@@ -1,3 +1,5 @@
+pub mod Checking
+pub mod Counting
 pub mod Lines
 pub mod Listing
 pub mod Naming

@@ -1,6 +1,7 @@
 // A whole day by one call: what a program prints of it.
 #![tactic(auto)]
 
+pub mod check;
 pub mod listing;
 pub mod methods;
 mod page;
