@@ -3,3 +3,4 @@ pub mod Counting
 pub mod Lines
 pub mod Listing
 pub mod Naming
+pub mod Reporting

@@ -5,4 +5,5 @@ pub mod check;
 pub mod listing;
 pub mod methods;
 mod page;
+pub mod report;
 mod shown;
