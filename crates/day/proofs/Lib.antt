@@ -1,1 +1,2 @@
+pub mod Counting
 pub mod Opens

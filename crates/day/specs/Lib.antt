@@ -1,3 +1,6 @@
+pub mod Checking
+pub mod Counting
 pub mod Lines
 pub mod Listing
 pub mod Naming
+pub mod Reporting
