@@ -1,5 +1,9 @@
 -- Labels: from their spelling to the positions of the table, and the events that they stand for.
-use Rattle.std.proofs.Common.{◌≡◌, ℕ, suc, ◌+◌, ◌≤◌, ◌⊎◌, ◌||◌, ◌&&◌, Bool, true, false, cond, eqb, nat_le, nat_lt, List, [], ◌∷◌, ◌++◌, map, take, length, set, codes, sym, refl, ap, ◌∙◌, subst, inl, inr, arith, append_assoc}
+use Rattle.std.proofs.Common.{not, ◌≡◌, ℕ, suc, ◌+◌, ◌≤◌, ◌⊎◌, ◌||◌, ◌&&◌, Bool, true, false, cond, eqb, nat_le, nat_lt, List, [], ◌∷◌, ◌++◌, map, take, length, set, codes, sym, refl, ap, ◌∙◌, subst, inl, inr, arith, append_assoc, zero, ◌<◌, get_or}
+use Rattle.std.proofs.lemmas.Slice.Eq.{bytes_eq-Decides}
+use Rattle.std.proofs.lemmas.List.Sums.{passes_at_first}
+use Rattle.std.specs.List.{position_or_len}
+use mathlib.Core.List.Memᴰ
 use Rattle.std.proofs.Math.Seq.{take-suc-set}
 use Rattle.std.proofs.lemmas.Bool.Decides.{nat_tests}
 use Rattle.std.proofs.lemmas.List.{map-append, length-set}
@@ -8,12 +12,12 @@ use Rattle.forms.specs.Pieces.{head_of}
 use Rattle.forms.specs.Pieces as pieces
 use Rattle.forms.proofs.Laws.{apart}
 use Rattle.limits.specs.Tables.{matcher, placed}
-use Rattle.topl.specs.Lists.{each}
+use Rattle.topl.specs.Lists.{◌∈◌, each}
 use Rattle.topl.specs.Table as T
 use Rattle.property.specs.Cursors.{to, call_of, events_of, finished, labelled, met, naming, opened, return_of, stated}
 use Rattle.property.specs.Grammar.{flaws, fresh_flaws, pattern_flaws, Marked}
 use Rattle.property.specs.States.{Declared, Key, State, Property, at, turned, callee_at, method_in, method_of, ninth, variable_key}
-use Rattle.property.specs.Words.{same, past, first_byte, long}
+use Rattle.property.specs.Words.{reserved, same, past, first_byte, long}
 use Rattle.property.specs.declared.cursor.Cursor.{Cursor}
 use Rattle.property.specs.declared.spot.Inner.TheVariants as inners
 use Rattle.property.specs.declared.spot.Kind.{Kind}
@@ -24,7 +28,7 @@ use Rattle.property.specs.declared.table.Event.{Event}
 use Rattle.property.specs.declared.table.Event.TheVariants as events
 use Rattle.property.specs.declared.table.Slot.{Slot}
 use Rattle.property.specs.declared.table.Statement.{Statement}
-use Rattle.productions.specs.Meaning.{pattern_keys, label_keys, pattern_of, label_of, method}
+use Rattle.productions.specs.Meaning.{Known, LabelFits, pattern_keys, label_keys, pattern_of, label_of, method}
 use Rattle.productions.specs.Spelling.{word, sign, pattern, leading, label}
 use Rattle.productions.specs.Spelling.{becomes as becoming, parameters as bracketed}
 use Rattle.productions.specs.Syntax.{Pattern, anything, unlike, constant, Label, any_event, calls, returns, whole}
@@ -118,6 +122,7 @@ pub record Labelled (p : State) (a : ℕ) (l : Label) (s r : List ℕ) : Type 0 
   pub sofar : on.sofar ≡ holds_keys (label_keys l) p.sofar
   pub kept : Kept p.cursor.statement now
   pub adds : Clean p a s → Few p.sofar.methods → Ready p.cursor.statement → Adds p.cursor.statement now on.sofar.registers (λ g. T.label_matchers (label_of p.sofar.methods g l))
+  pub fits : Clean p a s → Few p.sofar.methods → LabelFits p.sofar.methods l
 
 pub no_first : (t : Bool) (n : ℕ) (k : List (Bool × ℕ)) → ((m : ℕ) → Marked ((t, n) ∷ k) m → ⊥) → t ≡ false
 no_first true n k h = absurd (h n (inl (refl, refl)))
@@ -152,20 +157,47 @@ star_read p a s r h =
           let z = no_first (nat_le 4 p.cursor.statement.span || (nat_le 3 p.cursor.statement.span && eqb (first_byte (past space r)) 58)) 11 [] (x.fine c) in
           let m = meets events.Any o.cursor y (below 3 p.cursor.statement.span (or_left (nat_le 4 p.cursor.statement.span) _ z)) in
           record { ready = m.ready; matches = λ g j. m.matches };
+      fits = λ c f. tt;
     }
 
 -- A method's name, before its parameters.
 abbrev titled : List ℕ → State → State
 titled m q = at (labelled (naming (method_of q.sofar m).number (method_of q.sofar m).arity q.cursor.label) q.cursor) q
 
+get_or_mem : {X : Type 0} (xs : List X) (i : ℕ) (d : X) → i < length xs → get_or xs i d ∈ xs
+get_or_mem [] i d h = absurd (omega arith)
+get_or_mem (x ∷ xs) zero d h = Memᴰ.head refl
+get_or_mem (x ∷ xs) (suc i) d h = Memᴰ.tail (get_or_mem xs i d (omega arith))
+
+-- A method's name that has no fault is declared.
+known : (ms : List Declared) (w : List ℕ) (a b : Bool × ℕ)
+    → ((n : ℕ) → Marked (a ∷ b ∷ (not (nat_lt (position_or_len (λ m. same w m.name) ms) (length ms)), 12) ∷ []) n → ⊥) → Known ms w
+known ms w a b h =
+    let none : Declared = record { name = []; number = 0; arity = 0 } in
+    let i = position_or_len (λ (m : Declared). same w m.name) ms in
+    let e = no_first (not (nat_lt i (length ms))) 12 [] (λ n k. h n (inr (inr k))) in
+    let l : i < length ms = within i (length ms) e in
+    (get_or_mem ms i none l, sym ((bytes_eq-Decides w (get_or ms i none).name).0 (passes_at_first (λ m. same w m.name) ms none l)))
+  where
+    within : (i n : ℕ) → not (nat_lt i n) ≡ false → i < n
+    within i n e = grind (arith, nat_tests)
+
 callee_opens : (d : Kind) (q : State) (a : ℕ) (m s r : List ℕ) → q.cursor.label.kind ≡ d → ((u : Cursor) → callee_at d u ≡ to (spots.Label labels.Open) u) → word m s r
-    → (c : ℕ) × Leads (turned (spots.Label labels.Callee) q) a s (turned (spots.Label labels.Open) (titled m q)) c r
+    → (c : ℕ) × Leads (turned (spots.Label labels.Callee) q) a s (turned (spots.Label labels.Open) (titled m q)) c r × (Clean (turned (spots.Label labels.Callee) q) a s → Known q.sofar.methods m)
 callee_opens d q a m s r e f h =
     let o = turned (spots.Label labels.Callee) q in
     let x = by_word o a m s r refl (word_letter m s r h) h in
     let u = labelled (naming (method_of q.sofar m).number (method_of q.sofar m).arity q.cursor.label) o.cursor in
     let i : at (callee_at q.cursor.label.kind u) o ≡ turned (spots.Label labels.Open) (titled m q) = ap (λ (k : Kind). at (callee_at k u) o) e ∙ ap (λ (v : Cursor). at v o) (f u) in
-    (x.place, subst (λ (z : State). Leads o a s z x.place r) i x.leads)
+    (x.place, subst (λ (z : State). Leads o a s z x.place r) i x.leads, λ c. known q.sofar.methods m (reserved m, 10) (long m, 11) (x.fine c))
+
+-- Where the brackets have closed the method has as many parameters as there are patterns.
+arity_by : (p q : State) (ps : List Pattern) → Given p q ps → p.cursor.label.count ≡ 1 → p.cursor.label.arity ≤ 5 → q.cursor.label.count ≡ q.cursor.label.arity + 1
+    → p.cursor.label.arity ≡ length ps
+arity_by p q ps v e h f =
+    let a = v.arity in
+    let c = v.count (omega arith) in
+    omega (arith, a, c, e, f)
 
 -- The call of a label whose brackets have closed.
 called_by : (p q : State) (ps : List Pattern) → Given p q ps → p.cursor.label.count ≡ 1 → length p.cursor.label.slots ≡ 5 → p.cursor.label.arity ≤ 5
@@ -200,6 +232,7 @@ call_read m ps p a s r (u1, h, (u2, i, j)) =
     let k : c.label.kind ≡ kinds.Call = v.kind in
     let lead = along x.leads y.1 in
     record {
+      fits = λ e f. (y.2 (x.leads.clean e), arity_by (turned (spots.Label labels.Open) (titled m o)) b.on ps v refl (f m) (b.full (lead.clean e)));
       on = at (finished c) b.on;
       place = b.place;
       leads = along lead b.leads;
@@ -237,6 +270,9 @@ return_read x m p a s r (u1, h, (u2, i, (u3, j, l))) =
     let e : at (callee_at n.cursor.label.kind c) (turned (spots.Label labels.Callee) n) ≡ at (finished c) n = ap (λ (d : Kind). at (callee_at d c) n) k in
     let lead = along y.leads (along z.leads b.1) in
     record {
+      fits = λ e f.
+          subst (λ (ms : List Declared). Known ms m) (ap (λ (P : Property). P.methods) v.sofar)
+          (known n.sofar.methods m (reserved m, 10) (long m, 11) (w.fine (lead.clean e)));
       on = at (finished c) n;
       place = w.place;
       leads = along lead (subst (λ (t : State). Leads (turned (spots.Label labels.Callee) n) b.0 u3 t w.place r) e w.leads);
@@ -372,7 +408,12 @@ whole_read x m ps p a s u r o v h i =
     let z = w.statement ∙ o.statement in
     let lead = along o.leads y.1 in
     let first = met (call_of c.label) c in
+    let same_methods : n.sofar.methods ≡ p.sofar.methods = ap (λ (y : Property). y.methods) o.sofar in
     record {
+      fits = λ e f.
+          let few : (method_in n.sofar.methods m).arity ≤ 5 = subst (λ (ms : List Declared). (method_in ms m).arity ≤ 5) (sym same_methods) (f m) in
+          subst (λ (ms : List Declared). LabelFits ms (whole x m ps)) same_methods
+          (y.2 (o.leads.clean e), arity_by (turned (spots.Label labels.Open) (titled m n)) b.on ps w o.count few (b.full (lead.clean e)));
       on = at (finished c) b.on;
       place = b.place;
       leads = along lead b.leads;
@@ -386,7 +427,6 @@ whole_read x m ps p a s u r o v h i =
           let t1 = meets (call_of c.label) c (ready_from p.cursor.statement c.statement (sym z) t) (subst (λ (y : Statement). y.span ≤ 3) (sym z) (omega arith)) in
           let span2 : c.statement.span ≤ 2 = subst (λ (y : Statement). y.span ≤ 2) (sym z) room in
           let t2 = meets (return_of c.label) first t1.ready (let e1 = t1.span in omega (arith, e1, span2)) in
-          let same_methods : n.sofar.methods ≡ p.sofar.methods = ap (λ (y : Property). y.methods) o.sofar in
           let few : (method_in n.sofar.methods m).arity ≤ 5 = subst (λ (ms : List Declared). (method_in ms m).arity ≤ 5) (sym same_methods) (f m) in
           subst (λ (y : Statement). Adds p.cursor.statement y b.on.sofar.registers (λ g. T.label_matchers (label_of p.sofar.methods g (whole x m ps)))) (sym g)
           (record {

@@ -8,3 +8,4 @@ pub mod Pieces
 pub mod Places
 pub mod Putting
 pub mod Reading
+pub mod Unique

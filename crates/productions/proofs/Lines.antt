@@ -1,8 +1,9 @@
 -- Lines: from their spelling to the positions of the table, and what they write.
-use Rattle.std.proofs.Common.{◌≡◌, ℕ, zero, suc, ◌+◌, ◌<◌, ◌≤◌, ◌⊎◌, ◌&&◌, not, ◌==◌, Bool, true, false, cond, eqb, nat_eq, nat_le, nat_lt, get_or, List, [], ◌∷◌, ◌++◌, map, length, codes, sym, refl, ap, ◌∙◌, subst, inl, inr, arith, append-nil, append_assoc, eqb-true, length-append}
+use Rattle.std.proofs.Common.{◌≡◌, ℕ, zero, suc, ◌+◌, ◌<◌, ◌≤◌, ◌⊎◌, ◌&&◌, not, ◌==◌, Bool, true, false, cond, eqb, nat_eq, nat_le, nat_lt, get_or, List, [], ◌∷◌, ◌++◌, map, length, codes, sym, refl, ap, ◌∙◌, subst, inl, inr, arith, append-nil, append_assoc, eqb-true, length-append, All}
 use Rattle.std.proofs.lemmas.Bool.{cases_Bool, eqb-false}
 use Rattle.std.proofs.lemmas.Bool.Decides.{nat_tests}
 use Rattle.std.proofs.lemmas.List.{map-append}
+use Rattle.std.proofs.lemmas.List.Elements.{All-nil, All-cons}
 use Rattle.std.proofs.lemmas.List.Sums.{prefix_len-le-length}
 use Rattle.std.specs.List.{list_any, position_or_len}
 use Rattle.forms.specs.Bytes.{space, Every, value}
@@ -25,7 +26,7 @@ use Rattle.property.specs.declared.spot.Route.TheVariants as routes
 use Rattle.property.specs.declared.spot.Spot.TheVariants as spots
 use Rattle.property.specs.declared.table.Event.TheVariants as events
 use Rattle.property.specs.declared.table.Statement.{Statement as Row}
-use Rattle.productions.specs.Meaning.{label_keys, label_of, other_state, state, statement_keys, statement_of, statement_states, Means}
+use Rattle.productions.specs.Meaning.{LabelFits, StatementFits, label_keys, label_of, other_state, state, statement_keys, statement_of, statement_states, Means}
 use Rattle.productions.specs.Spelling.{◌⨾◌, NoMethod, Spells, sign, newline, ending, first_line, more_labels, method_line, method_lines, statement_line, statement_lines}
 use Rattle.productions.specs.Syntax.{Label, Statement, Tree}
 use Rattle.productions.proofs.Leading.{Clean, Leads, along, stay, word_letter, number_digit, by_word, by_number, by_mark, by_byte, at_spot}
@@ -72,6 +73,7 @@ record Series (p : State) (n : Row) (a : ℕ) (ls : List Label) (s r : List ℕ)
   sofar : on.sofar ≡ holds_keys (each label_keys ls) p.sofar
   kept : Kept n now
   adds : Clean p a s → Few p.sofar.methods → Ready n → Adds n now on.sofar.registers (λ g. each T.label_matchers (map (label_of p.sofar.methods g) ls))
+  fits : Clean p a s → Few p.sofar.methods → All (LabelFits p.sofar.methods) ls
 
 series : (ls : List Label) (p : State) (n : Row) (a : ℕ) (s r : List ℕ) → Ends p n → more_labels ls s r → Series p n a ls s r
 series [] p n a s r e h = record {
@@ -83,6 +85,7 @@ series [] p n a s r e h = record {
   sofar = refl;
   kept = record { source = refl; target = refl };
   adds = λ c f y. record { ready = y; matches = λ g j. sym (append-nil (matched n)) };
+  fits = λ c f. All-nil (LabelFits p.sofar.methods);
 }
 series (l ∷ ls) p n a s r e (u, h, (v, i, j)) =
     let x = again p n a s u e h in
@@ -101,6 +104,9 @@ series (l ∷ ls) p n a s r e (u, h, (v, i, j)) =
       ends = z.ends;
       sofar = held_along (label_keys l) (each label_keys ls) p.sofar y.on.sofar z.on.sofar first z.sofar;
       kept = kept_along n y.now z.now (kept_from b.cursor.statement n y.now x.statement y.kept) z.kept;
+      fits = λ c f.
+          All-cons (LabelFits p.sofar.methods) l ls (subst (λ (l' : List Declared). LabelFits l' l) mb (y.fits (x.leads.clean c) (subst Few (sym mb) f)))
+          (subst (λ (l' : List Declared). All (LabelFits l') ls) ms (z.fits (lead.clean c) (subst Few (sym ms) f)));
       adds = λ c f w.
           let o = y.adds (x.leads.clean c) (subst Few (sym mb) f) (ready_from n b.cursor.statement (sym x.statement) w) in
           let k = z.adds (lead.clean c) (subst Few (sym ms) f) o.ready in
@@ -181,6 +187,7 @@ record Stated (p : State) (a : ℕ) (x : Statement) (s r : List ℕ) : Type 0 wh
   target : now.target ≡ state_number (grow same (other_state x.source) p.sofar.others) x.target
   matches : Clean p a s → Few p.sofar.methods → (g : List Key) → Goes on.sofar.registers g
       → matched now ≡ T.label_matchers (label_of p.sofar.methods g x.first) ++ each T.label_matchers (map (label_of p.sofar.methods g) x.others)
+  fits : Clean p a s → Few p.sofar.methods → StatementFits p.sofar.methods x
 
 begins_row : (n : ℕ) → Ready (sourced n)
 begins_row n = record { four = refl; few = omega arith }
@@ -214,6 +221,10 @@ stated x p a s r e (u1, h1, (u2, h2, (u3, h3, (u4, h4, (u5, h5, (u6, h6, h7)))))
       now = y7.now;
       ends = y7.ends;
       sofar = held_along (label_keys x.first) (each label_keys x.others) (visits (statement_states x) p.sofar) y6.on.sofar y7.on.sofar b6 y7.sofar;
+      fits = λ c f. (
+        subst (λ (l : List Declared). LabelFits l x.first) m2 (y6.fits (lead5.clean c) (subst Few (sym m2) f)),
+        subst (λ (l : List Declared). All (LabelFits l) x.others) m6 (y7.fits (lead6.clean c) (subst Few (sym m6) f)),
+      );
       source = k.source;
       target = k.target ∙ ap (λ (P : Property). state_number P.others x.target) b1;
       matches = λ c f g j.
@@ -289,6 +300,7 @@ record Written (p : State) (n : Row) (a : ℕ) (xs : List Statement) (s : List �
   registers : value.registers ≡ grow same_key (each statement_keys xs) p.sofar.registers
   statements : Clean p a s → Few p.sofar.methods → length value.others ≤ 14
       → map table_statement value.statements ≡ map table_statement (p.sofar.statements ++ n ∷ []) ++ map (statement_of value.others p.sofar.methods value.registers) xs
+  fits : Clean p a s → Few p.sofar.methods → All (StatementFits p.sofar.methods) xs
 
 -- Some statement has come, so that no line declares a method.
 declares_none : (w : List ℕ) (p : State) (b : Bool) → eqb (length p.sofar.statements) 0 ≡ false → b && eqb (length p.sofar.statements) 0 ≡ false
@@ -304,6 +316,7 @@ written [] p n a s u e h f = record {
   others = refl;
   registers = refl;
   statements = λ c w k. sym (append-nil (map table_statement (p.sofar.statements ++ n ∷ [])));
+  fits = λ c w. All-nil (StatementFits p.sofar.methods);
 }
 written (x ∷ xs) p n a s u e (v, h, (w, i, j)) f =
     let o = over_line p n a s v e h in
@@ -322,6 +335,9 @@ written (x ∷ xs) p n a s u e (v, h, (w, i, j)) f =
     record {
       value = z.value;
       takes = lead.ahead z.value z.takes;
+      fits = λ c few.
+          All-cons (StatementFits p.sofar.methods) x xs (subst (λ (l : List Declared). StatementFits l x) mb (y.fits (o.leads.clean c) (subst Few (sym mb) few)))
+          (subst (λ (l : List Declared). All (StatementFits l) xs) ms (z.fits (lead.clean c) (subst Few (sym ms) few)));
       name = z.name ∙ ap (λ (P : Property). P.name) sofar;
       methods = z.methods ∙ ms;
       others = z.others ∙ (ap (grow same (each statement_states xs)) os ∙ sym (grow_append same (statement_states x) (each statement_states xs) p.sofar.others));
@@ -452,6 +468,7 @@ record Finished (p : State) (a : ℕ) (xs : List Statement) (s : List ℕ) : Typ
   registers : value.registers ≡ grow same_key (each statement_keys xs) p.sofar.registers
   statements : Clean (turned (spots.Line lines.Ending) p) a s → Few p.sofar.methods → length value.others ≤ 14
       → map table_statement value.statements ≡ map (statement_of value.others p.sofar.methods value.registers) xs
+  fits : Clean (turned (spots.Line lines.Ending) p) a s → Few p.sofar.methods → All (StatementFits p.sofar.methods) xs
 
 -- The end of the text, where no statement has come.
 bare : (p : State) (a : ℕ) (s : List ℕ) → ending s [] → Takes text (turned (spots.Line lines.Ending) p) a p.sofar s
@@ -467,6 +484,7 @@ finished_by [] p a s u e n h f = record {
   others = refl;
   registers = refl;
   statements = λ c few k. ap (map table_statement) e;
+  fits = λ c few. All-nil (StatementFits p.sofar.methods);
 }
 finished_by (x ∷ xs) p a s u e n (v, h, (w, i, j)) f =
     let o = line_over p a s v h in
@@ -480,6 +498,9 @@ finished_by (x ∷ xs) p a s u e n (v, h, (w, i, j)) f =
     record {
       value = z.value;
       takes = lead.ahead z.value z.takes;
+      fits = λ c few.
+          All-cons (StatementFits p.sofar.methods) x xs (y.fits (o.1.clean c) few)
+          (subst (λ (l : List Declared). All (StatementFits l) xs) ms (z.fits (lead.clean c) (subst Few (sym ms) few)));
       name = z.name ∙ ap (λ (P : Property). P.name) y.sofar;
       methods = z.methods ∙ ms;
       others = z.others ∙ (ap (grow same (each statement_states xs)) os ∙ sym (grow_append same (statement_states x) (each statement_states xs) p.sofar.others));
@@ -567,6 +588,7 @@ taken A t (n, (u1, h1, (u2, h2, (u3, h3, h4)))) =
             methods = z.methods ∙ ms;
             others = z.others ∙ (ap (grow same (each statement_states A.statements)) (y.others ∙ ap (λ (P : Property). P.others) x.sofar) ∙ grown_firsts same words_tell (each statement_states A.statements));
             registers = z.registers ∙ (ap (grow same_key (each statement_keys A.statements)) (y.registers ∙ ap (λ (P : Property). P.registers) x.sofar) ∙ grown_firsts same_key keys_tell (each statement_keys A.statements));
+            declared = subst (λ (l : List Declared). All (StatementFits l) A.statements) ms (z.fits (lead.clean c) few);
             statements = vs ∙ ap (λ (l : List Declared). map (statement_of z.value.others l z.value.registers) A.statements) (sym z.methods);
           };
     }

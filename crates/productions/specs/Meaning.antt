@@ -1,7 +1,7 @@
 -- What a tree means: states, methods and registers by their numbers, and the statements of the theory.
-use Rattle.std.specs.Prelude.{◌≡◌, ℕ, ◌+◌, Bool, cond, List, [], ◌∷◌, ◌++◌, map}
+use Rattle.std.specs.Prelude.{◌≡◌, ℕ, ◌+◌, Bool, cond, List, [], ◌∷◌, ◌++◌, map, length, All}
 use Rattle.std.specs.List.{position_or_len}
-use Rattle.topl.specs.Lists.{each, holds}
+use Rattle.topl.specs.Lists.{◌∈◌, each, holds}
 use Rattle.topl.specs.Table as T
 use Rattle.limits.specs.Tables.{table_of}
 use Rattle.property.specs.States.{Declared, Key, Property, is_start, is_error, method_in, same_key, constant_key, variable_key}
@@ -75,10 +75,29 @@ label_of ms gs (whole p m ps) = T.whole_label (pattern_of gs p) (method ms m) (m
 abbrev pub statement_of : List (List ℕ) → List Declared → List Key → Statement → T.Statement
 statement_of ws ms gs x = T.statement_of (state ws x.source) (state ws x.target) (label_of ms gs x.first) (map (label_of ms gs) x.others)
 
+-- DECLARED METHODS
+-- The method m is declared; with n parameters.
+abbrev pub Known : List Declared → List ℕ → Type 0
+Known ms m = (method_in ms m ∈ ms) × ((method_in ms m).name ≡ m)
+
+abbrev pub Has : List Declared → List ℕ → ℕ → Type 0
+Has ms m n = Known ms m × ((method_in ms m).arity ≡ n)
+
+-- The method of a label is declared, and a call has a pattern for each of its parameters.
+abbrev pub LabelFits : List Declared → Label → Type 0
+LabelFits ms any_event = Unit {0}
+LabelFits ms (calls m ps) = Has ms m (length ps)
+LabelFits ms (returns p m) = Known ms m
+LabelFits ms (whole p m ps) = Has ms m (length ps)
+
+abbrev pub StatementFits : List Declared → Statement → Type 0
+StatementFits ms x = LabelFits ms x.first × All (LabelFits ms) x.others
+
 -- The property is what the tree means.
 pub record Means (A : Tree) (P : Property) : Type 0 where
   pub name : P.name ≡ A.name
   pub methods : P.methods ≡ A.methods
   pub others : P.others ≡ states A
   pub registers : P.registers ≡ keys A
+  pub declared : All (StatementFits A.methods) A.statements
   pub statements : (table_of P).statements ≡ map (statement_of P.others P.methods P.registers) A.statements
