@@ -17,9 +17,11 @@ tree_of t (P, h) =
     let rest = line.1.2 in
     (record { name = line.0; methods = rest.0; statements = rest.1 }, (rest.2, (line.1.0, (n.0, n.1, (n.2.0, n.2.1, line.1.1)), rest.3)))
 
+-- A text that the table takes spells a tree, and back.
 pub nested_productions : NestedProductions
 nested_productions t = (tree_of t, λ x. let y = taken x.0 t x.1 in (y.value, y.takes))
 
+-- The property that is taken from a tree is the only one, so an accepted one.
 pub trees_mean : TreesMean
 trees_mean t P A h w s =
     let y = taken A t s in

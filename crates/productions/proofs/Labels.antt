@@ -55,12 +55,14 @@ pub record Met (s n : Statement) (e : Event) : Type 0 where
   pub span : n.span ≡ s.span + 1
   pub matches : matched n ≡ matched s ++ matcher e ∷ []
 
+-- A row of events with one more set behind those that count.
 set_more : (s : Statement) (e : Event) → Ready s → s.span ≤ 3 → map matcher (take (s.span + 1) (set s.events s.span e)) ≡ matched s ++ matcher e ∷ []
 set_more s e r h =
     let f = r.four in
     let a : s.span + 1 ≡ suc s.span = omega arith in
     ap (λ (i : ℕ). map matcher (take i (set s.events s.span e))) a ∙ (ap (map matcher) (take-suc-set s.events s.span e (omega arith)) ∙ map-append matcher (take s.span s.events) (e ∷ []))
 
+-- An event is met: there is room for it, or there is none.
 meets_by : (t : Bool) (e : Event) (c : Cursor) → nat_lt c.statement.span 4 ≡ t → Ready c.statement → c.statement.span ≤ 3
     → Met c.statement (cond t (stated (record { source = c.statement.source; target = c.statement.target; events = set c.statement.events c.statement.span e; span = c.statement.span + 1 }) c) c).statement e
 meets_by true e c f r h = record {
@@ -70,6 +72,7 @@ meets_by true e c f r h = record {
 }
 meets_by false e c f r h = absurd (apart (nat_lt c.statement.span 4) (grind (arith, nat_tests)) f)
 
+-- An event is met.
 meets : (e : Event) (c : Cursor) → Ready c.statement → c.statement.span ≤ 3 → Met c.statement (met e c).statement e
 meets e c r h = meets_by (nat_lt c.statement.span 4) e c refl r h
 
@@ -78,25 +81,26 @@ pub record Kept (s n : Statement) : Type 0 where
   pub source : n.source ≡ s.source
   pub target : n.target ≡ s.target
 
+-- Either way the states are kept.
 kept_by : (t : Bool) (s : Statement) (c d : Cursor) → Kept s c.statement → Kept s d.statement → Kept s (cond t c d).statement
 kept_by true s c d h k = h
 kept_by false s c d h k = k
 
+-- An event that is met keeps the states.
 kept : (e : Event) (c : Cursor) → Kept c.statement (met e c).statement
 kept e c =
     kept_by (nat_lt c.statement.span 4) c.statement (stated (record { source = c.statement.source; target = c.statement.target; events = set c.statement.events c.statement.span e; span = c.statement.span + 1 }) c) c
     (record { source = refl; target = refl }) (record { source = refl; target = refl })
 
-met_label_by : (t : Bool) (c d : Cursor) → c.label ≡ d.label → (cond t c d).label ≡ d.label
-met_label_by true c d e = e
-met_label_by false c d e = refl
-
+-- They are kept from a statement to another and on.
 pub kept_along : (s n o : Statement) → Kept s n → Kept n o → Kept s o
 kept_along s n o h k = record { source = k.source ∙ h.source; target = k.target ∙ h.target }
 
+-- They are kept from an equal statement.
 pub kept_from : (s t n : Statement) → s ≡ t → Kept s n → Kept t n
 kept_from s t n e h = subst (λ (y : Statement). Kept y n) e h
 
+-- The events of a label keep the states.
 kept_events : (d : Kind) (c : Cursor) → Kept c.statement (events_of d c).statement
 kept_events kinds.Call c = kept (call_of c.label) c
 kept_events kinds.Return c = kept (return_of c.label) c
@@ -124,17 +128,21 @@ pub record Labelled (p : State) (a : ℕ) (l : Label) (s r : List ℕ) : Type 0 
   pub adds : Clean p a s → Few p.sofar.methods → Ready p.cursor.statement → Adds p.cursor.statement now on.sofar.registers (λ g. T.label_matchers (label_of p.sofar.methods g l))
   pub fits : Clean p a s → Few p.sofar.methods → LabelFits p.sofar.methods l
 
+-- The first test of a piece without fault says no.
 pub no_first : (t : Bool) (n : ℕ) (k : List (Bool × ℕ)) → ((m : ℕ) → Marked ((t, n) ∷ k) m → ⊥) → t ≡ false
 no_first true n k h = absurd (h n (inl (refl, refl)))
 no_first false n k h = refl
 
+-- A number that another does not pass.
 pub below : (m n : ℕ) → nat_le (suc m) n ≡ false → n ≤ m
 below m n h = grind (arith, nat_tests)
 
+-- Of two tests that both say no, the first.
 or_left : (a b : Bool) → (a || b) ≡ false → a ≡ false
 or_left true b e = e
 or_left false b e = refl
 
+-- Of two tests that both say no, the second.
 or_right : (a b : Bool) → (a || b) ≡ false → b ≡ false
 or_right true b e = apart true refl e
 or_right false b e = e
@@ -164,6 +172,7 @@ star_read p a s r h =
 abbrev titled : List ℕ → State → State
 titled m q = at (labelled (naming (method_of q.sofar m).number (method_of q.sofar m).arity q.cursor.label) q.cursor) q
 
+-- An element at a place of a list is in the list.
 get_or_mem : {X : Type 0} (xs : List X) (i : ℕ) (d : X) → i < length xs → get_or xs i d ∈ xs
 get_or_mem [] i d h = absurd (omega arith)
 get_or_mem (x ∷ xs) zero d h = Memᴰ.head refl
@@ -182,6 +191,7 @@ known ms w a b h =
     within : (i n : ℕ) → not (nat_lt i n) ≡ false → i < n
     within i n e = grind (arith, nat_tests)
 
+-- By the name of the method before the brackets.
 callee_opens : (d : Kind) (q : State) (a : ℕ) (m s r : List ℕ) → q.cursor.label.kind ≡ d → ((u : Cursor) → callee_at d u ≡ to (spots.Label labels.Open) u) → word m s r
     → (c : ℕ) × Leads (turned (spots.Label labels.Callee) q) a s (turned (spots.Label labels.Open) (titled m q)) c r × (Clean (turned (spots.Label labels.Callee) q) a s → Known q.sofar.methods m)
 callee_opens d q a m s r e f h =
@@ -212,10 +222,7 @@ called_by p q ps v e l h f g j =
     ap (λ (i : ℕ). T.called i (map placed (take q.cursor.label.arity q.cursor.label.slots))) v.number
     ∙ ap (T.called p.cursor.label.number) (ap (λ (i : ℕ). map placed (take i q.cursor.label.slots)) (n ∙ sym z) ∙ s)
 
--- A statement after an event more, from an equal one.
-met_from : (s t n : Statement) (e : Event) → s ≡ t → Met s n e → Met t n e
-met_from s t n e i h = subst (λ (y : Statement). Met y n e) i h
-
+-- An equal statement is ready too.
 pub ready_from : (s t : Statement) → s ≡ t → Ready s → Ready t
 ready_from s t e h = subst Ready e h
 
@@ -314,6 +321,7 @@ past_spaces : (sp : List ℕ) (c : ℕ) (u : List ℕ) → Every space sp → sp
 past_spaces [] c u g e = ap (λ (b : Bool). cond b (past space u) (c ∷ u)) e
 past_spaces (d ∷ sp) c u g e = ap (λ (b : Bool). cond b (past space (sp ++ c ∷ u)) (d ∷ (sp ++ c ∷ u))) g.0 ∙ past_spaces sp c u g.1 e
 
+-- With `*` for the returned value.
 half_star : (p : State) (a : ℕ) (s u r : List ℕ) → sign "*" s u → becoming u r → Half (turned (spots.Label labels.Begin) p) a anything s r
 half_star p a s u r h (v, i, j) =
     let q = turned (spots.Label labels.Begin) p in
@@ -346,6 +354,7 @@ half_star p a s u r h (v, i, j) =
 abbrev Free : List ℕ → Type 0
 Free w = (same w (codes "call") ≡ false) × (same w (codes "ret") ≡ false)
 
+-- A label may begin with a pattern that is not `*` and no keyword.
 begin_admits : (p : State) → Admits (turned (spots.Label labels.Begin) p) (at (labelled (opened kinds.Both 0) p.cursor) (turned (spots.Label labels.Begin) p)) Free
 begin_admits p = record {
   loose = refl;
@@ -374,6 +383,7 @@ room_for (a_variable w) p s u v n h f =
 room_for (unlike w) p s u v n h f = or_left (nat_le 3 p.cursor.statement.span) _ (no_first _ 11 [] f)
 room_for (constant w) p s u v n h f = or_left (nat_le 3 p.cursor.statement.span) _ (no_first _ 11 [] f)
 
+-- With another pattern for the returned value.
 half_named : (x : Pattern) (p : State) (a : ℕ) (s u r : List ℕ) → Named x Free → pattern x s u → becoming u r → Half (turned (spots.Label labels.Begin) p) a x s r
 half_named x p a s u r f h i =
     let q = turned (spots.Label labels.Begin) p in
@@ -448,6 +458,7 @@ whole_read x m ps p a s u r o v h i =
           });
     }
 
+-- With any pattern for the returned value.
 begun : (x : Pattern) (p : State) (a : ℕ) (s u r : List ℕ) → leading x s u → becoming u r → Half (turned (spots.Label labels.Begin) p) a x s r
 begun anything p a s u r h i = half_star p a s u r h.1 i
 begun (a_variable w) p a s u r h i = half_named (a_variable w) p a s u r h.0 h.1 i

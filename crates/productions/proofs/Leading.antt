@@ -19,9 +19,11 @@ pub record Leads (p : State) (a : ℕ) (s : List ℕ) (q : State) (c : ℕ) (r :
   pub ahead : (v : Property) → Takes text q c v r → Takes text p a v s
   pub clean : Clean p a s → Clean q c r
 
+-- Over no bytes.
 pub stay : (p : State) (a : ℕ) (s : List ℕ) → Leads p a s p a s
 stay p a s = record { ahead = λ v t. t; clean = λ h. h }
 
+-- Over some bytes and then over others.
 pub along : {p q o : State} {a b c : ℕ} {s u r : List ℕ} → Leads p a s q b u → Leads q b u o c r → Leads p a s o c r
 along x y = record { ahead = λ v t. x.ahead v (y.ahead v t); clean = λ h. y.clean (x.clean h) }
 
@@ -36,6 +38,7 @@ pub record After (p : State) (a : ℕ) (x : Piece) (s r : List ℕ) : Type 0 whe
   pub leads : Leads p a s (moved p (piece_bytes x) (head_of x) at) place r
   pub fine : Clean p a s → Fine p x r
 
+-- A piece that may stand leads on.
 pub step : (p : State) (a : ℕ) (x : Piece) (s sp b r : List ℕ) → Next (tight_at p.cursor.spot) x s sp b r → opens_at p.cursor.spot (head_of x) ≡ true
     → After p a x s r
 step p a x s sp b r h o =
@@ -56,6 +59,7 @@ pub word_letter : (w s r : List ℕ) → word w s r → letter (head_of (pieces.
 word_letter [] s r h = absurd h.1.2.2
 word_letter (c ∷ w) s r h = h.1.2.2
 
+-- A number begins with a digit.
 pub number_digit : (d s r : List ℕ) → piece (pieces.number d) d s r → digit (head_of (pieces.number d)) ≡ true
 number_digit [] s r h = absurd h.1.2.2
 number_digit (c ∷ d) s r h = h.1.2.1.0
@@ -65,13 +69,16 @@ pub by_word : (p : State) (a : ℕ) (w s r : List ℕ) → tight_at p.cursor.spo
     → After p a (pieces.word w) s r
 by_word p a w s r t o h = step p a (pieces.word w) s h.0 w r (subst (λ (b : Bool). Next b (pieces.word w) s h.0 w r) (sym t) h.1) o
 
+-- By a number.
 pub by_number : (p : State) (a : ℕ) (d s r : List ℕ) → tight_at p.cursor.spot ≡ false → opens_at p.cursor.spot (head_of (pieces.number d)) ≡ true
     → piece (pieces.number d) d s r → After p a (pieces.number d) s r
 by_number p a d s r t o h = step p a (pieces.number d) s h.0 d r (subst (λ (b : Bool). Next b (pieces.number d) s h.0 d r) (sym t) h.1) o
 
+-- By a mark.
 pub by_mark : (p : State) (a m : ℕ) (s r : List ℕ) → tight_at p.cursor.spot ≡ false → opens_at p.cursor.spot m ≡ true → mark m s r → After p a (pieces.mark m) s r
 by_mark p a m s r t o h = step p a (pieces.mark m) s h.0 (m ∷ []) r (subst (λ (b : Bool). Next b (pieces.mark m) s h.0 (m ∷ []) r) (sym t) h.1) o
 
+-- By a byte in a tight place.
 pub by_byte : (p : State) (a m : ℕ) (s r : List ℕ) → tight_at p.cursor.spot ≡ true → opens_at p.cursor.spot m ≡ true → s ≡ m ∷ r → After p a (pieces.mark m) s r
 by_byte p a m s r t o e =
     step p a (pieces.mark m) s [] (m ∷ []) r (subst (λ (b : Bool). Next b (pieces.mark m) s [] (m ∷ []) r) (sym t) (e, refl, refl)) o

@@ -15,7 +15,7 @@ use Rattle.limits.specs.Tables.{over}
 use Rattle.limits.specs.Tables.{statement as table_statement}
 use Rattle.topl.specs.Lists.{each}
 use Rattle.topl.specs.Table as T
-use Rattle.property.specs.Cursors.{met, sourced}
+use Rattle.property.specs.Cursors.{met}
 use Rattle.property.specs.Grammar.{text}
 use Rattle.property.specs.States.{Declared, Key, State, Property, at, turned, moved, capped, declares, ends_statement, is_error, is_start, leaving, named, nothing_read, reaching, same_key, state_number, visited, with_state, with_statement}
 use Rattle.property.specs.Words.{same}
@@ -49,6 +49,7 @@ record Again (p : State) (n : Row) (a : ℕ) (s u : List ℕ) : Type 0 where
   statement : on.cursor.statement ≡ n
   sofar : on.sofar ≡ p.sofar
 
+-- By the semicolon.
 again : (p : State) (n : Row) (a : ℕ) (s u : List ℕ) → Ends p n → sign ";" s u → Again p n a s u
 again p n a s u (inl (e, f)) h =
     subst (λ (m : Row). Again p m a s u) (sym f)
@@ -75,6 +76,7 @@ record Series (p : State) (n : Row) (a : ℕ) (ls : List Label) (s r : List ℕ)
   adds : Clean p a s → Few p.sofar.methods → Ready n → Adds n now on.sofar.registers (λ g. each T.label_matchers (map (label_of p.sofar.methods g) ls))
   fits : Clean p a s → Few p.sofar.methods → All (LabelFits p.sofar.methods) ls
 
+-- Further labels.
 series : (ls : List Label) (p : State) (n : Row) (a : ℕ) (s r : List ℕ) → Ends p n → more_labels ls s r → Series p n a ls s r
 series [] p n a s r e h = record {
   on = p;
@@ -128,6 +130,7 @@ series (l ∷ ls) p n a s r e (u, h, (v, i, j)) =
 abbrev pub visits : List (List ℕ) → Property → Property
 visits ws P = record { name = P.name; methods = P.methods; others = grow same ws P.others; registers = P.registers; statements = P.statements }
 
+-- A state is `start`, `error`, known or new.
 visited_by : (a b t : Bool) (w : List ℕ) (P : Property) → position_or_len (same w) P.others == length P.others ≡ t
     → cond (not a && (not b && t)) (with_state w P) P ≡ visits (cond a [] (cond b [] (w ∷ []))) P
 visited_by true b t w P e = refl
@@ -135,9 +138,11 @@ visited_by false true t w P e = refl
 visited_by false false true w P e = ap (λ (c : Bool). record { name = P.name; methods = P.methods; others = cond c (P.others ++ w ∷ []) P.others; registers = P.registers; statements = P.statements }) (sym e)
 visited_by false false false w P e = ap (λ (c : Bool). record { name = P.name; methods = P.methods; others = cond c (P.others ++ w ∷ []) P.others; registers = P.registers; statements = P.statements }) (sym e)
 
+-- A state that is written adds itself alone.
 visited_is : (w : List ℕ) (P : Property) → visited w P ≡ visits (other_state w) P
 visited_is w P = visited_by (is_start w) (is_error w) (position_or_len (same w) P.others == length P.others) w P refl
 
+-- Some states and then others.
 visits_along : (vs ws : List (List ℕ)) (P : Property) → visits ws (visits vs P) ≡ visits (vs ++ ws) P
 visits_along vs ws P = ap (λ (x : List (List ℕ)). record { name = P.name; methods = P.methods; others = x; registers = P.registers; statements = P.statements }) (sym (grow_append same vs ws P.others))
 
@@ -171,6 +176,7 @@ number_by false false w ws all g h =
     few : (n : ℕ) → n < 14 → cond (nat_lt n 14) (2 + n) 16 ≡ 2 + n
     few n h = grind (arith, nat_tests)
 
+-- A state's number is its number in the whole property.
 number_stays : (w : List ℕ) (ws all : List (List ℕ)) → Goes (grow same (other_state w) ws) all → length all ≤ 14 → state_number ws w ≡ state all w
 number_stays w ws all g h = number_by (is_start w) (is_error w) w ws all g h
 
@@ -189,9 +195,7 @@ record Stated (p : State) (a : ℕ) (x : Statement) (s r : List ℕ) : Type 0 wh
       → matched now ≡ T.label_matchers (label_of p.sofar.methods g x.first) ++ each T.label_matchers (map (label_of p.sofar.methods g) x.others)
   fits : Clean p a s → Few p.sofar.methods → StatementFits p.sofar.methods x
 
-begins_row : (n : ℕ) → Ready (sourced n)
-begins_row n = record { four = refl; few = omega arith }
-
+-- A statement is read.
 stated : (x : Statement) (p : State) (a : ℕ) (s r : List ℕ) → declares p x.source ≡ false → statement_line x s r → Stated (turned (spots.Line lines.Fresh) p) a x s r
 stated x p a s r e (u1, h1, (u2, h2, (u3, h3, (u4, h4, (u5, h5, (u6, h6, h7)))))) =
     let q = turned (spots.Line lines.Fresh) p in
@@ -260,6 +264,7 @@ record Over (p : State) (n : Row) (a : ℕ) (s u : List ℕ) : Type 0 where
   leads : Leads p a s (turned (spots.Line lines.Fresh) on) place u
   sofar : on.sofar ≡ with_statement n p.sofar
 
+-- By the line's end.
 over_line : (p : State) (n : Row) (a : ℕ) (s u : List ℕ) → Ends p n → newline s u → Over p n a s u
 over_line p n a s u (inl (e, f)) h =
     subst (λ (m : Row). Over p m a s u) (sym f)
@@ -307,6 +312,7 @@ declares_none : (w : List ℕ) (p : State) (b : Bool) → eqb (length p.sofar.st
 declares_none w p true e = e
 declares_none w p false e = refl
 
+-- The rest of a text is taken.
 written : (xs : List Statement) (p : State) (n : Row) (a : ℕ) (s u : List ℕ) → Ends p n → statement_lines xs s u → ending u [] → Written p n a xs s
 written [] p n a s u e h f = record {
   value = with_statement n p.sofar;
@@ -366,12 +372,14 @@ line_over p a s u h = let x = by_mark (turned (spots.Line lines.Ending) p) a 10 
 abbrev Small : List Declared → Type 0
 Small ms = (i : ℕ) → (get_or ms i (record { name = []; number = 0; arity = 0 })).arity ≤ 5
 
+-- One method more.
 small_more : (ms : List Declared) (m : Declared) → Small ms → m.arity ≤ 5 → Small (ms ++ m ∷ [])
 small_more [] m h k zero = k
 small_more [] m h k (suc i) = omega arith
 small_more (n ∷ ms) m h k zero = h zero
 small_more (n ∷ ms) m h k (suc i) = small_more ms m (λ j. h (suc j)) k i
 
+-- Lines of methods were read from p on.
 record Methods (p : State) (a : ℕ) (ms : List Declared) (s u : List ℕ) : Type 0 where
   on : State
   place : ℕ
@@ -389,13 +397,16 @@ is_capped d n e h = by (value d) e
     by : (v : ℕ) → v ≡ n → cond (nat_le v 65535) v 65536 ≡ n
     by v e = grind (arith, nat_tests)
 
+-- A number that does not pass another.
 not_over : (m n : ℕ) → nat_lt n m ≡ false → m ≤ n
 not_over m n h = grind (arith, nat_tests)
 
+-- Where no statement has come, the word `method` begins a line of a method.
 declares_it : (b : Bool) (P Q : State) → b ≡ true → cond (true && b) P Q ≡ P
 declares_it true P Q e = refl
 declares_it false P Q e = apart false e refl
 
+-- A method's line is read.
 method_read : (m : Declared) (p : State) (a : ℕ) (s u : List ℕ) → p.sofar.statements ≡ [] → (newline ⨾ method_line m) s u → Methods p a (m ∷ []) s u
 method_read m p a s u e (u0, h0, (u1, h1, (u2, h2, (u3, (d, d1, d2), (f, f1, f2))))) =
     let x0 = line_over p a s u0 h0 in
@@ -430,6 +441,7 @@ method_read m p a s u e (u0, h0, (u1, h1, (u2, h2, (u3, (d, d1, d2), (f, f1, f2)
           (same_one, subst Small (sym same_one) (small_more p.sofar.methods m k (omega (arith, n2, f1))));
     }
 
+-- Lines of methods are read.
 methods_read : (ms : List Declared) (p : State) (a : ℕ) (s u : List ℕ) → p.sofar.statements ≡ [] → method_lines ms s u → Methods p a ms s u
 methods_read [] p a s u e h = record {
   on = p;
@@ -475,6 +487,7 @@ bare : (p : State) (a : ℕ) (s : List ℕ) → ending s [] → Takes text (turn
 bare p a s (inl h) = let x = line_over p a s [] h in x.1.ahead p.sofar (stop (turned (spots.Line lines.Fresh) p) x.0 p.sofar [] tt refl)
 bare p a s (inr h) = stop (turned (spots.Line lines.Ending) p) a p.sofar s (subst (Every space) (sym (h.2 ∙ append-nil h.0)) h.1) refl
 
+-- The statements are read, up to the end.
 finished_by : (xs : List Statement) (p : State) (a : ℕ) (s u : List ℕ) → p.sofar.statements ≡ [] → NoMethod xs → statement_lines xs s u → ending u [] → Finished p a xs s
 finished_by [] p a s u e n h f = record {
   value = p.sofar;
@@ -548,6 +561,7 @@ record Titled (w : List ℕ) (s r : List ℕ) : Type 0 where
   leads : Leads nothing_read 0 s (turned (spots.Line lines.Ending) on) place r
   sofar : on.sofar ≡ named w nothing_read.sofar
 
+-- The first line is read.
 titled_by : (w s r : List ℕ) → first_line w s r → Titled w s r
 titled_by w s r (u, (sp, g, e), (v, f, h)) =
     let x0 = margins sp nothing_read 0 u g in
@@ -568,6 +582,7 @@ pub record Taken (A : Tree) (t : List ℕ) : Type 0 where
   pub takes : Takes text nothing_read 0 value t
   pub means : Clean nothing_read 0 t → length value.others ≤ 14 → Means A value
 
+-- A tree's text is taken.
 pub taken : (A : Tree) (t : List ℕ) → Spells A t → Taken A t
 taken A t (n, (u1, h1, (u2, h2, (u3, h3, h4)))) =
     let x = titled_by A.name t u1 h1 in

@@ -24,31 +24,37 @@ abbrev pub Further : Bool → List ℕ → Type 0
 Further true s = (ms : List Declared) × (xs : List Statement) × NoMethod xs × (method_lines ms ⨾ statement_lines xs ⨾ ending) s []
 Further false s = (xs : List Statement) × (statement_lines xs ⨾ ending) s []
 
--- Behind a label, and where one begins.
+-- Behind a label.
 abbrev pub Labels : List ℕ → Type 0
 Labels s = (ls : List Label) × (more_labels ls ▹ Further false) s
 
+-- Where a label begins.
 abbrev pub Beginning : List ℕ → Type 0
 Beginning s = (l : Label) × (label l ▹ Labels) s
 
--- From a label's method on, from its parameters on, inside of the brackets, and behind a parameter.
+-- From a label's parameters on.
 abbrev pub Opening : List ℕ → Type 0
 Opening s = (ps : List Pattern) × (parameters ps ▹ Labels) s
 
+-- Behind the opening bracket.
 abbrev pub Inside : List ℕ → Type 0
 Inside s = (ps : List Pattern) × (inside ps ▹ Labels) s
 
+-- Behind a parameter.
 abbrev pub Closing : List ℕ → Type 0
 Closing s = (ps : List Pattern) × (more_parameters ps ▹ Labels) s
 
+-- From a label's method on, by the kind of the label.
 abbrev pub Callee : Kind → List ℕ → Type 0
 Callee kinds.Call s = (m : List ℕ) × (word m ▹ Opening) s
 Callee kinds.Both s = (m : List ℕ) × (word m ▹ Opening) s
 Callee kinds.Return s = (m : List ℕ) × (word m ▹ Labels) s
 
+-- Inside `:=`.
 abbrev pub Equal : Kind → List ℕ → Type 0
 Equal d s = (bytes (codes "=") ▹ Callee d) s
 
+-- From `:=` on.
 abbrev pub Becoming : Kind → List ℕ → Type 0
 Becoming d s = (sign ":" ▹ Equal d) s
 
@@ -57,29 +63,35 @@ abbrev pub Behind : Bool → Kind → List ℕ → Type 0
 Behind true d s = Becoming d s
 Behind false d s = Closing s
 
+-- From a pattern on.
 abbrev pub Patterns : Bool → Kind → List ℕ → Type 0
 Patterns b d s = (x : Pattern) × (pattern x ▹ Behind b d) s
 
--- From a statement's `-`, `>`, target and `:` on.
+-- From a statement's `:` on.
 abbrev pub Colon : List ℕ → Type 0
 Colon s = (sign ":" ▹ Beginning) s
 
+-- From its target on.
 abbrev pub Target : List ℕ → Type 0
 Target s = (w : List ℕ) × (word w ▹ Colon) s
 
+-- Inside `->`.
 abbrev pub Greater : List ℕ → Type 0
 Greater s = (bytes (codes ">") ▹ Target) s
 
+-- From `->` on.
 abbrev pub Minus : List ℕ → Type 0
 Minus s = (sign "-" ▹ Greater) s
 
--- From a method's arity, number and name on.
+-- From a method's arity on.
 abbrev pub Arity : Bool → List ℕ → Type 0
 Arity b s = (n : ℕ) × (number n ▹ Further b) s
 
+-- From its number on.
 abbrev pub Number : Bool → List ℕ → Type 0
 Number b s = (n : ℕ) × (number n ▹ Arity b) s
 
+-- From its name on.
 abbrev pub Name : Bool → List ℕ → Type 0
 Name b s = (w : List ℕ) × (word w ▹ Number b) s
 
@@ -89,13 +101,15 @@ Fresh true s =
     (s ≡ []) ⊎ (((w : List ℕ) × (same w (codes "method") ≡ false) × (word w ▹ Minus) s) ⊎ ((word (codes "method") ▹ Name true) s))
 Fresh false s = (s ≡ []) ⊎ ((w : List ℕ) × (word w ▹ Minus) s)
 
--- In the first line: its name, and n letters into its keyword.
+-- From the property's name on.
 abbrev pub Title : Bool → List ℕ → Type 0
 Title b s = (w : List ℕ) × (word w ▹ Further b) s
 
+-- With n letters of the keyword read.
 abbrev pub Keyword : ℕ → Bool → List ℕ → Type 0
 Keyword n b s = (bytes (drop n (codes "property ")) ▹ Title b) s
 
+-- Before the keyword.
 abbrev pub Margin : Bool → List ℕ → Type 0
 Margin b s = (spaces ▹ Keyword 0 b) s
 

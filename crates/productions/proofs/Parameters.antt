@@ -57,23 +57,28 @@ Named (a_variable w) Good = Good w
 Named (unlike w) Good = Good (33 ∷ [])
 Named (constant w) Good = Good (60 ∷ [])
 
+-- A letter may begin a pattern.
 letter_opens : (c : ℕ) → letter c ≡ true → pattern_opens c ≡ true
 letter_opens c h = ap (λ (b : Bool). b || (eqb c 42 || (eqb c 33 || eqb c 60))) h
 
+-- A choice whose test says no.
 pub if_false : {A : Type 0} (t : Bool) (x y : A) → t ≡ false → cond t x y ≡ y
 if_false true x y e = apart true refl e
 if_false false x y e = refl
 
+-- A pattern that begins with a letter is a variable.
 begins_variable : (w : List ℕ) (c k : ℕ) (p : State) → letter c ≡ true → begins w c k p ≡ variable w k p
 begins_variable w c k p h =
     if_false (eqb c 42) _ (cond (eqb c 33) (turned (spots.Inner (inners.Negated k)) p) (cond (eqb c 60) (turned (spots.Inner (inners.Quoted k)) p) (variable w k p))) (not_mark c 42 h refl)
     ∙ (if_false (eqb c 33) _ (cond (eqb c 60) (turned (spots.Inner (inners.Quoted k)) p) (variable w k p)) (not_mark c 33 h refl)
     ∙ if_false (eqb c 60) _ (variable w k p) (not_mark c 60 h refl))
 
+-- The first byte of a word with a small first letter.
 small_head : (w s r : List ℕ) → word w s r → small (first_byte w) ≡ true → small (head_of (pieces.word w)) ≡ true
 small_head [] s r h e = absurd h.1.2.2
 small_head (c ∷ w) s r h e = e
 
+-- A pattern that is not `*` is read.
 pub named : (x : Pattern) (p o : State) (a : ℕ) (s r : List ℕ) (Good : List ℕ → Type 0) → Admits p o Good → Named x Good → pattern x s r → Reads p o a x s r
 named anything p o a s r Good m n h = absurd n
 named (a_variable w) p o a s r Good m n h =
@@ -110,9 +115,11 @@ named (constant w) p o a s r Good m n (u, h, (v, i, j)) =
 abbrev Any : List ℕ → Type 0
 Any w = Unit {0}
 
+-- No pattern begins with a closing bracket.
 not_close : (c : ℕ) → pattern_opens c ≡ true → eqb c 41 ≡ false
 not_close c h = grind (arith, nat_tests)
 
+-- A returned pattern is read.
 pub returned : (x : Pattern) (p : State) (a : ℕ) (s r : List ℕ) → pattern x s r → Reads (turned (spots.Inner inners.Returned) p) (turned (spots.Inner inners.Returned) p) a x s r
 returned anything p a s r h =
     let x = by_mark (turned (spots.Inner inners.Returned) p) a 42 s r refl refl h in
@@ -121,6 +128,7 @@ returned (a_variable w) p a s r h = named (a_variable w) _ _ a s r Any (record {
 returned (unlike w) p a s r h = named (unlike w) _ _ a s r Any (record { loose = refl; opens = λ c e. e; begin = λ w c k g o e. refl }) tt h
 returned (constant w) p a s r h = named (constant w) _ _ a s r Any (record { loose = refl; opens = λ c e. e; begin = λ w c k g o e. refl }) tt h
 
+-- A parameter behind a comma is read.
 pub param : (x : Pattern) (p : State) (a : ℕ) (s r : List ℕ) → pattern x s r → Reads (turned (spots.Inner inners.Param) p) (turned (spots.Inner inners.Param) p) a x s r
 param anything p a s r h =
     let x = by_mark (turned (spots.Inner inners.Param) p) a 42 s r refl refl h in
@@ -129,6 +137,7 @@ param (a_variable w) p a s r h = named (a_variable w) _ _ a s r Any (record { lo
 param (unlike w) p a s r h = named (unlike w) _ _ a s r Any (record { loose = refl; opens = λ c e. e; begin = λ w c k g o e. refl }) tt h
 param (constant w) p a s r h = named (constant w) _ _ a s r Any (record { loose = refl; opens = λ c e. e; begin = λ w c k g o e. refl }) tt h
 
+-- A pattern may begin behind the opening bracket.
 first_admits : (p : State) → Admits (turned (spots.Inner inners.First) p) (turned (spots.Inner inners.First) p) Any
 first_admits p = record {
   loose = refl;
@@ -140,6 +149,7 @@ first_admits p = record {
     or_true true = refl
     or_true false = refl
 
+-- The first parameter is read.
 pub first : (x : Pattern) (p : State) (a : ℕ) (s r : List ℕ) → pattern x s r → Reads (turned (spots.Inner inners.First) p) (turned (spots.Inner inners.First) p) a x s r
 first anything p a s r h =
     let x = by_mark (turned (spots.Inner inners.First) p) a 42 s r refl refl h in
@@ -161,6 +171,7 @@ pub record Given (p q : State) (ps : List Pattern) : Type 0 where
   pub slots : (n : ℕ) → p.cursor.label.count ≡ suc n → n + length ps ≤ 5 → length p.cursor.label.slots ≡ 5 → (g : List Key) → Goes q.sofar.registers g
       → map placed (take (n + length ps) q.cursor.label.slots) ≡ map placed (take n p.cursor.label.slots) ++ map (pattern_of g) ps
 
+-- No pattern was read.
 given_none : (p : State) → Given p p []
 given_none p = record {
   kind = refl;
@@ -179,6 +190,7 @@ given_none p = record {
 pub held_goes : (ks : List Key) (P Q : Property) → Q ≡ holds_keys ks P → Goes P.registers Q.registers
 held_goes ks P Q e = subst (λ (gs : List Key). Goes P.registers gs) (ap (λ (O : Property). O.registers) (sym e)) (goes_grow same_key ks P.registers)
 
+-- Some keys are held and then others.
 pub held_along : (ks ls : List Key) (P Q O : Property) → Q ≡ holds_keys ks P → O ≡ holds_keys ls Q → O ≡ holds_keys (ks ++ ls) P
 held_along ks ls P Q O e f =
     f ∙ (ap (λ (X : Property). holds_keys ls X) e ∙ ap (λ (gs : List Key). record { name = P.name; methods = P.methods; others = P.others; registers = gs; statements = P.statements }) (sym (grow_append same_key ks ls P.registers)))
@@ -197,6 +209,7 @@ slot_more n x ss h l =
     few : (n : ℕ) → n ≤ 4 → nat_le (suc n) 5 ≡ true
     few n h = grind (arith, nat_tests)
 
+-- A pattern was read, and then others.
 given_more : (p q o : State) (x : Pattern) (ps : List Pattern) → eqb p.cursor.label.count 0 ≡ false → Put p q x → Given q o ps → Given p o (x ∷ ps)
 given_more p q o x ps f u v = record {
   kind = v.kind ∙ u.label.kind;
@@ -237,6 +250,7 @@ pub record Closed (p : State) (a : ℕ) (s r : List ℕ) (ps : List Pattern) : T
   pub given : Given p on ps
   pub full : Clean p a s → on.cursor.label.count ≡ on.cursor.label.arity + 1
 
+-- A closing bracket without fault closes as many patterns as are wanted.
 all_there : (c n : ℕ) → ((m : ℕ) → Marked ((not (eqb c n), 13) ∷ []) m → ⊥) → c ≡ n
 all_there c n h = elim (cases_Bool (eqb c n)) [
   | inl e ↦ eqb-true c n e
@@ -266,6 +280,7 @@ counts_on c n e = elim (cases_Bool (eqb c 0)) [
     more_than : (c : ℕ) → eqb c 0 ≡ false → eqb (one_more c) 0 ≡ false
     more_than c f = grind (arith, nat_tests)
 
+-- By the closing bracket, behind a parameter.
 close : (p : State) (a : ℕ) (s r : List ℕ) → sign ")" s r → Closed (turned (spots.Label labels.Comma) p) a s r []
 close p a s r h =
     let q = turned (spots.Label labels.Comma) p in
@@ -278,9 +293,11 @@ behind : (p o : State) (x : Pattern) (ps : List Pattern) (a b : ℕ) (s v r : Li
 behind p o x ps a b s v r k f l c =
     (c.on, c.place, along l c.leads, given_more o (put x k o) c.on x ps f (puts x k o) c.given, λ e. c.full (l.clean e))
 
+-- Behind a parameter a comma or a bracket comes.
 comma_spot : (x : Pattern) (k : ℕ) (o : State) → eqb o.cursor.label.count 0 ≡ false → (put x k o).cursor.spot ≡ spots.Label labels.Comma
 comma_spot x k o f = (puts x k o).spot ∙ ap (λ (b : Bool). spots.Label (cond b labels.Becomes labels.Comma)) f
 
+-- Further parameters.
 more : (ps : List Pattern) (p : State) (a : ℕ) (s r : List ℕ) → eqb p.cursor.label.count 0 ≡ false → more_parameters ps s r → Closed (turned (spots.Label labels.Comma) p) a s r ps
 more [] p a s r f h = close p a s r h
 more (x ∷ ps) p a s r f (u, h, (v, i, j)) =
@@ -294,6 +311,7 @@ more (x ∷ ps) p a s r f (u, h, (v, i, j)) =
     let w = behind q o x ps a z.place s v r z.at f (along y.leads z.leads) c in
     record { on = w.0; place = w.1; leads = w.2; given = given_since (spots.Inner inners.Param) (spots.Label labels.Comma) p w.0 (x ∷ ps) w.3; full = w.4 }
 
+-- All that stands in brackets.
 inner : (ps : List Pattern) (p : State) (a : ℕ) (s r : List ℕ) → eqb p.cursor.label.count 0 ≡ false → inside ps s r → Closed (turned (spots.Inner inners.First) p) a s r ps
 inner [] p a s r f h =
     let q = turned (spots.Inner inners.First) p in

@@ -12,13 +12,15 @@ pub either : (a b : Bool) → (a || b) ≡ true → (a ≡ true) ⊎ (b ≡ true
 either true b e = inl refl
 either false b e = inr e
 
--- The piece with the bytes of a word, and with its own.
+-- A piece with its own bytes: a word.
 as_word : (w s sp b r : List ℕ) → Next false (pieces.word w) s sp b r → word w s r
 as_word w s sp b r h = (sp, subst (λ (c : List ℕ). Next false (pieces.word w) s sp c r) h.2.0 h)
 
+-- A number.
 as_number : (d s sp b r : List ℕ) → Next false (pieces.number d) s sp b r → piece (pieces.number d) d s r
 as_number d s sp b r h = (sp, subst (λ (c : List ℕ). Next false (pieces.number d) s sp c r) h.2.0 h)
 
+-- A mark.
 as_mark : (m : ℕ) (s sp b r : List ℕ) → Next false (pieces.mark m) s sp b r → mark m s r
 as_mark m s sp b r h = (sp, subst (λ (c : List ℕ). Next false (pieces.mark m) s sp c r) h.2.0 h)
 

@@ -30,10 +30,12 @@ with_registers gs P = record { name = P.name; methods = P.methods; others = P.ot
 abbrev pub holds_keys : List Key → Property → Property
 holds_keys ks P = with_registers (grow same_key ks P.registers) P
 
+-- A key has a register or gets one.
 held_by : (t : Bool) (k : Key) (P : Property) → cond t (with_register k P) P ≡ with_registers (cond t (P.registers ++ k ∷ []) P.registers) P
 held_by true k P = refl
 held_by false k P = refl
 
+-- The property with a register for one key.
 pub held : (k : Key) (P : Property) → holding k P ≡ holds_keys (k ∷ []) P
 held k P = held_by (new_key P k) k P
 
@@ -59,11 +61,13 @@ pub record Put (p q : State) (x : Pattern) : Type 0 where
   pub sofar : q.sofar ≡ holds_keys (pattern_keys x) p.sofar
   pub stands : Stands slot q.sofar.registers x
 
+-- A cursor with a pattern more.
 record Filled (u v : Cursor) (x : Slot) : Type 0 where
   spot : v.spot ≡ spots.Label (cond (eqb u.label.count 0) labels.Becomes labels.Comma)
   label : Grown u.label v.label x
   statement : v.statement ≡ u.statement
 
+-- The returned pattern, or a parameter.
 fills_by : (t : Bool) (x : Slot) (u : Cursor) → eqb u.label.count 0 ≡ t
     → Filled u (cond t (to (spots.Label labels.Becomes) (labelled (returning x u.label) u)) (to (spots.Label labels.Comma) (labelled (taking x u.label) u))) x
 fills_by true x u e = record {
@@ -91,6 +95,7 @@ fills_by false x u e = record {
   statement = refl;
 }
 
+-- A pattern more.
 fills : (x : Slot) (u : Cursor) → Filled u (filled x u) x
 fills x u = fills_by (eqb u.label.count 0) x u refl
 
@@ -108,6 +113,7 @@ put (constant w) k p =
     turned (spots.Label (cond ((patterned (constant_key w) patterns.Same k (turned (spots.Inner (inners.Quoted k)) p)).cursor.label.count == 1) labels.Becomes labels.Comma))
     (turned (spots.Inner inners.Unquote) (patterned (constant_key w) patterns.Same k (turned (spots.Inner (inners.Quoted k)) p)))
 
+-- A pattern that names a register.
 put_patterned : (x : Pattern) (k : Key) (f : ℕ → Holes ℕ) (h : ℕ → T.Pattern) (n : ℕ) (p : State) → pattern_keys x ≡ k ∷ [] → ((i : ℕ) → pattern (f i) ≡ h i)
     → ((g : List Key) → pattern_of g x ≡ h (position_or_len (same_key k) g)) → Put p (patterned k f n p) x
 put_patterned x k f h n p a e i =
@@ -143,6 +149,7 @@ chosen : (t : Bool) (w : List ℕ) (p A B : State) → capital (first_byte w) �
 chosen true w p A B e f g = f refl
 chosen false w p A B e f g = g refl
 
+-- A variable.
 puts_variable : (w : List ℕ) (k : ℕ) (p : State) → Put p (variable w k p) (a_variable w)
 puts_variable w k p =
     chosen (capital (first_byte w)) w p (patterned (variable_key w) patterns.Write k q) (patterned (variable_key w) patterns.Same k p) refl
@@ -165,6 +172,7 @@ one_after c n e = elim (cases_Bool (eqb c 0)) [
     more : (c : ℕ) → eqb c 0 ≡ false → eqb (one_more c) 1 ≡ false
     more c f = grind (arith, nat_tests)
 
+-- Each pattern.
 pub puts : (x : Pattern) (k : ℕ) (p : State) → Put p (put x k p) x
 puts anything k p =
     let s : Slot = record { pattern = patterns.Any; place = k } in

@@ -41,15 +41,18 @@ abbrev Steps : State → Type 0
 Steps p =
     (x : Piece) (k : ℕ) (s sp b r : List ℕ) → Next (tight_at p.cursor.spot) x s sp b r → opens_at p.cursor.spot (head_of x) ≡ true → On p k r x → Missing p s
 
+-- What is missing where a test says yes.
 pick_true : (t : Bool) (A B : State) (r : List ℕ) → t ≡ true → Missing (cond t A B) r → Missing A r
 pick_true true A B r e k = k
 pick_true false A B r e k = apart false e refl
 
+-- What is missing where a test says no.
 pick_false : (t : Bool) (A B : State) (r : List ℕ) → t ≡ false → Missing (cond t A B) r → Missing B r
 pick_false true A B r e k = apart true refl e
 pick_false false A B r e k = k
 
 -- THE FIRST LINE
+-- In the margin a space, or the first letter of the keyword.
 margin : (p : State) → Steps (turned (spots.Head heads.Margin) p)
 margin p x k s sp b r h o m = elim (either (eqb (head_of x) 32) (eqb (head_of x) 112) o) [
   | inl e ↦
@@ -63,6 +66,7 @@ margin p x k s sp b r h o m = elim (either (eqb (head_of x) 32) (eqb (head_of x)
       (s, ([], tt, refl), (n.0, y.0 ∙ ap (λ (u : List ℕ). 112 ∷ u) n.1, n.2)))
 ]
 
+-- The letters of the keyword, from each on.
 letters : (n : ℕ) → n ≤ 7 → get_or (codes "property") n 121 ∷ drop (n + 1) (codes "property ") ≡ drop n (codes "property ")
 letters zero h = refl
 letters (suc zero) h = refl
@@ -79,6 +83,7 @@ letter_on : (n : ℕ) (b : Bool) (s r : List ℕ) → n ≤ 7 → s ≡ get_or (
 letter_on n b s r h e k =
     (k.0, e ∙ (ap (λ (u : List ℕ). get_or (codes "property") n 121 ∷ u) k.1 ∙ ap (λ (u : List ℕ). u ++ k.0) (letters n h)), k.2)
 
+-- In the keyword.
 keyword : (n : ℕ) (p : State) → Steps (turned (spots.Head (heads.Keyword n)) p)
 keyword n p x k s sp b r h o m l =
     let y = from_byte (get_or (codes "property") n 121) (On (turned (spots.Head (heads.Keyword n)) p) k r) x s sp b r h o m in
@@ -104,6 +109,7 @@ statement_on : (w s r : List ℕ) → word w s r → Minus r → (x : Statement)
 statement_on w s r h (u1, m, (u2, g, (t, (u3, ht, (u4, c, (l, (u5, hl, (ls, (u6, hs, f))))))))) =
     (record { source = w; target = t; first = l; others = ls }, refl, (u6, (r, h, (u1, m, (u2, g, (u3, ht, (u4, c, (u5, hl, hs)))))), f))
 
+-- Behind the end of a line.
 fresh_on : (b : Bool) (s r : List ℕ) → newline s r → Fresh b r → Further b s
 fresh_on true s r n (inl e) = ([], [], tt, (s, refl, (s, refl, inl (subst (newline s) e n))))
 fresh_on true s r n (inr (inl (w, e, (u, h, m)))) =
@@ -131,9 +137,11 @@ fresh_by w s r true false P Q h e f g k = inr (w, (r, h, g k))
 fresh_by w s r false true P Q h e f g k = inr (inl (w, e, (r, h, g k)))
 fresh_by w s r false false P Q h e f g k = inr (w, (r, h, g k))
 
+-- No letter is another byte that is none.
 no_letter : {A : Type 0} (c m : ℕ) → letter c ≡ true → letter m ≡ false → eqb c m ≡ true → A
 no_letter c m h k e = apart (letter m) (subst (λ (y : ℕ). letter y ≡ true) (eqb-true c m e) h) k
 
+-- The same, as a test.
 pub not_mark : (c m : ℕ) → letter c ≡ true → letter m ≡ false → eqb c m ≡ false
 not_mark c m h k = elim (cases_Bool (eqb c m)) [ inl e ↦ no_letter c m h k e | inr e ↦ e ]
 
@@ -196,6 +204,7 @@ filled_by : (t : Bool) (x : Slot) (u : Cursor) (b : Bool) (p : State) (r : List 
 filled_by true x u b p r e k = k refl
 filled_by false x u b p r e k = k (grind (arith, nat_tests))
 
+-- A pattern was read.
 filled_on : (x : Slot) (u : Cursor) (p : State) (r : List ℕ) → Missing (at (filled x u) p) r → Behind (eqb u.label.count 0) u.label.kind r
 filled_on x u p r k = filled_by (eqb u.label.count 0) x u true p r refl k
 
@@ -204,6 +213,7 @@ kept : (t : Bool) (A B : Partial) → A.kind ≡ B.kind → A.count ≡ B.count 
 kept true A B e f = (e, f)
 kept false A B e f = (refl, refl)
 
+-- Writing a register keeps the kind and the count.
 writing_keeps : (i : ℕ) (l : Partial) → ((writing i l).kind ≡ l.kind) × ((writing i l).count ≡ l.count)
 writing_keeps i l = kept (nat_lt i 8) _ l refl refl
 
@@ -268,12 +278,15 @@ pattern_on x k p s sp b r h o m = elim (either (letter (head_of x)) _ o) [
 whole_on : (x : Pattern) (s r : List ℕ) → NoKeyword x → pattern x s r → Becoming kinds.Both r → Beginning s
 whole_on x s r f h (u1, c, (u2, e, (m, (u3, hm, (ps, (u4, hp, ls)))))) = (whole x m ps, (u4, (r, (f, h), (u2, (u1, c, e), (u3, hm, hp))), ls))
 
+-- Behind the keyword `call`.
 call_on : (s r : List ℕ) → word (codes "call") s r → Callee kinds.Call r → Beginning s
 call_on s r h (m, (u, hm, (ps, (v, hp, ls)))) = (calls m ps, (v, (r, h, (u, hm, hp)), ls))
 
+-- Behind the keyword `ret`.
 return_on : (s r : List ℕ) → word (codes "ret") s r → Patterns true kinds.Return r → Beginning s
 return_on s r h (x, (u, hx, (v1, c, (v2, e, (m, (v3, hm, ls)))))) = (returns x m, (v3, (r, h, (u, hx, (v2, (v1, c, e), hm))), ls))
 
+-- A label that begins with a word.
 begin_word : (c : ℕ) (w : List ℕ) (k : ℕ) (p : State) (s r : List ℕ) → letter c ≡ true → word (c ∷ w) s r
     → Missing (moved (turned (spots.Label labels.Begin) p) (c ∷ w) c k) r → Beginning s
 begin_word c w k p' s r h i n =
@@ -382,6 +395,7 @@ equals p x k s sp b r h o m l =
     let y = from_byte 61 (On (turned (spots.Label labels.Equals) p) k r) x s sp b r h o m in
     (r, y.0, y.1 l)
 
+-- Behind the method, by the kind of the label.
 callee_by : (d : Kind) (u : Cursor) (p : State) (w s r : List ℕ) → eqb u.label.count 0 ≡ false → word w s r → Missing (at (callee_at d u) p) r → Callee d s
 callee_by kinds.Call u p w s r l h n = (w, (r, h, n l))
 callee_by kinds.Both u p w s r l h n = (w, (r, h, n l))
@@ -438,6 +452,7 @@ param : (p : State) → Steps (turned (spots.Inner inners.Param) p)
 param p x k s sp b r h o m l =
     subst (λ (t : Bool). Patterns t p.cursor.label.kind s) l (pattern_on x k (turned (spots.Inner inners.Param) p) s sp b r h o m)
 
+-- A small letter is a letter.
 pub small_letter : (c : ℕ) → small c ≡ true → letter c ≡ true
 small_letter c h = grind (arith, nat_tests)
 
@@ -469,6 +484,7 @@ quoted n p x k s sp b r h o m =
     q : State
     q = turned (spots.Inner (inners.Quoted n)) p
 
+-- Behind a constant, by what it counts for.
 unquote_by : (t : Bool) (p : State) (s r : List ℕ) → eqb p.cursor.label.count 1 ≡ t → eqb p.cursor.label.count 0 ≡ false
     → Missing (turned (spots.Label (cond t labels.Becomes labels.Comma)) p) r → Behind t p.cursor.label.kind r
 unquote_by true p s r e f n = n (eqb-true p.cursor.label.count 1 e)
@@ -513,15 +529,18 @@ steps (spots.Inner inners.Unquote) p = unquote p
 all_left : (s : List ℕ) → Every space s → ending s []
 all_left s h = inr (s, h, sym (append-nil s))
 
+-- At the end of a line.
 ended : (b : Bool) (s : List ℕ) → Every space s → Further b s
 ended true s h = ([], [], tt, (s, refl, (s, refl, all_left s h)))
 ended false s h = ([], (s, refl, all_left s h))
 
+-- Behind the end of a line.
 fresh_end : (b : Bool) (s : List ℕ) → none_left s ≡ true → Fresh b s
 fresh_end true [] e = inl refl
 fresh_end false [] e = inl refl
 fresh_end b (c ∷ s) e = apart false e refl
 
+-- At each spot where a text may end.
 stops : (z : Spot) (p : State) (s : List ℕ) → Every space s → ends_at z s ≡ true → Missing (turned z p) s
 stops (spots.Head h) p s g e = apart false e refl
 stops (spots.Line lines.Ending) p s g e = ended (eqb (length p.sofar.statements) 0) s g

@@ -13,9 +13,11 @@ use Rattle.productions.specs.Spelling.{becomes as becoming, parameters as bracke
 use Rattle.productions.specs.Syntax.{Pattern, anything, variable, unlike, constant, Label, any_event, calls, returns, whole, Statement, Tree}
 
 -- PIECES
+-- One piece stands at a place.
 one_piece : (x y : Piece) (b c s r u : List ℕ) → piece x b s r → piece y c s u → (x ≡ y) × (r ≡ u)
 one_piece x y b c s r u (sp, h) (sq, k) = let z = next_unique false x y s sp sq b c r u h k in (z.0, z.3)
 
+-- The bytes of a piece.
 abbrev letters : Piece → List ℕ
 letters (pieces.word w) = w
 letters (pieces.number d) = d
@@ -27,14 +29,17 @@ kind (pieces.word w) = 0
 kind (pieces.number d) = 1
 kind (pieces.mark m) = 2 + m
 
+-- One word.
 one_word : (w v s r u : List ℕ) → word w s r → word v s u → (w ≡ v) × (r ≡ u)
 one_word w v s r u h k = let z = one_piece (pieces.word w) (pieces.word v) w v s r u h k in (ap letters z.0, z.1)
 
+-- One number.
 one_number : (m n : ℕ) (s r u : List ℕ) → number m s r → number n s u → (m ≡ n) × (r ≡ u)
 one_number m n s r u (d, e, h) (c, f, k) =
     let z = one_piece (pieces.number d) (pieces.number c) d c s r u h k in
     (sym e ∙ (ap (λ (x : Piece). value (letters x)) z.0 ∙ f), z.1)
 
+-- One mark.
 one_mark : (m : ℕ) (s r u : List ℕ) → mark m s r → mark m s u → r ≡ u
 one_mark m s r u h k = (one_piece (pieces.mark m) (pieces.mark m) (m ∷ []) (m ∷ []) s r u h k).1
 
@@ -50,18 +55,21 @@ lead (variable w) = pieces.word w
 lead (unlike w) = pieces.mark 33
 lead (constant w) = pieces.mark 60
 
+-- It stands where the pattern stands.
 lead_of : (x : Pattern) (s r : List ℕ) → pattern x s r → (b : List ℕ) × (u : List ℕ) × piece (lead x) b s u
 lead_of anything s r h = (42 ∷ [], r, h)
 lead_of (variable w) s r h = (w, r, h)
 lead_of (unlike w) s r (u, h, k) = (33 ∷ [], u, h)
 lead_of (constant w) s r (u, h, k) = (60 ∷ [], u, h)
 
+-- Patterns that begin with different pieces do not stand at one place.
 two_leads : {A : Type 0} (x y : Pattern) (s r u : List ℕ) → (kind (lead x) ≡ kind (lead y) → ⊥) → pattern x s r → pattern y s u → A
 two_leads x y s r u n h k =
     let a = lead_of x s r h in
     let b = lead_of y s u k in
     clash (lead x) (lead y) a.0 b.0 s a.1 b.1 n a.2 b.2
 
+-- One pattern.
 one_pattern : (x y : Pattern) (s r u : List ℕ) → pattern x s r → pattern y s u → (x ≡ y) × (r ≡ u)
 one_pattern anything anything s r u h k = (refl, one_mark 42 s r u h k)
 one_pattern (variable w) (variable v) s r u h k = let z = one_word w v s r u h k in (ap variable z.0, z.1)
@@ -85,9 +93,11 @@ one_pattern (constant w) anything s r u h k = two_leads (constant w) anything s 
 one_pattern (constant w) (variable v) s r u h k = two_leads (constant w) (variable v) s r u (λ e. omega arith) h k
 one_pattern (constant w) (unlike v) s r u h k = two_leads (constant w) (unlike v) s r u (λ e. omega arith) h k
 
+-- Lists that begin with equal patterns.
 pair : {x y : Pattern} {xs ys : List Pattern} → x ≡ y → xs ≡ ys → ◌≡◌ {A = List Pattern} (x ∷ xs) (y ∷ ys)
 pair e f = λ i. e i ∷ f i
 
+-- The same further parameters.
 one_more : (xs ys : List Pattern) (s r u : List ℕ) → more_parameters xs s r → more_parameters ys s u → (xs ≡ ys) × (r ≡ u)
 one_more [] [] s r u h k = (refl, one_mark 41 s r u h k)
 one_more [] (y ∷ ys) s r u h (b, k, l) = clash (pieces.mark 41) (pieces.mark 44) (41 ∷ []) (44 ∷ []) s r b (λ e. omega arith) h k
@@ -97,6 +107,7 @@ one_more (x ∷ xs) (y ∷ ys) s r u (a, h, (c, i, j)) (b, k, (d, m, n)) =
     let p = one_pattern x y b c d (subst (λ (z : List ℕ). pattern x z c) e i) m in
     let q = one_more xs ys d r u (subst (λ (z : List ℕ). more_parameters xs z r) p.1 j) n in (pair p.0 q.0, q.1)
 
+-- No pattern begins with a closing bracket.
 no_bracket : {A : Type 0} (x : Pattern) (s r u : List ℕ) → mark 41 s r → pattern x s u → A
 no_bracket {A} x s r u h k = let b = lead_of x s u k in clash (pieces.mark 41) (lead x) (41 ∷ []) b.0 s r b.1 (other x) h b.2
   where
@@ -106,6 +117,7 @@ no_bracket {A} x s r u h k = let b = lead_of x s u k in clash (pieces.mark 41) (
     other (unlike w) e = omega arith
     other (constant w) e = omega arith
 
+-- The same parameters.
 one_inside : (xs ys : List Pattern) (s r u : List ℕ) → inside xs s r → inside ys s u → (xs ≡ ys) × (r ≡ u)
 one_inside [] [] s r u h k = (refl, one_mark 41 s r u h k)
 one_inside [] (y ∷ ys) s r u h (b, k, l) = no_bracket y s r b h k
@@ -114,10 +126,12 @@ one_inside (x ∷ xs) (y ∷ ys) s r u (c, i, j) (d, m, n) =
     let p = one_pattern x y s c d i m in
     let q = one_more xs ys d r u (subst (λ (z : List ℕ). more_parameters xs z r) p.1 j) n in (pair p.0 q.0, q.1)
 
+-- The same parameters in brackets.
 one_brackets : (xs ys : List Pattern) (s r u : List ℕ) → bracketed xs s r → bracketed ys s u → (xs ≡ ys) × (r ≡ u)
 one_brackets xs ys s r u (a, h, i) (b, k, l) =
     let e = one_mark 40 s a b h k in one_inside xs ys b r u (subst (λ (z : List ℕ). inside xs z r) e i) l
 
+-- `:=` ends at one place.
 one_becomes : (s r u : List ℕ) → becoming s r → becoming s u → r ≡ u
 one_becomes s r u (a, h, i) (b, k, l) =
     let e = one_mark 58 s a b h k in
@@ -144,6 +158,7 @@ one_whole x y m n ps qs s r u (a1, (f, h1), (a2, h2, (a3, h3, h4))) (b1, (g, k1)
     let e40 = e4.0 in
     ((λ i. whole (e10 i) (e30 i) (e40 i)), e4.1)
 
+-- One call.
 one_call : (m n : List ℕ) (ps qs : List Pattern) (s r u : List ℕ) → label (calls m ps) s r → label (calls n qs) s u → (calls m ps ≡ calls n qs) × (r ≡ u)
 one_call m n ps qs s r u (a1, h1, (a2, h2, h3)) (b1, k1, (b2, k2, k3)) =
     let e1 = one_word (codes "call") (codes "call") s a1 b1 h1 k1 in
@@ -153,6 +168,7 @@ one_call m n ps qs s r u (a1, h1, (a2, h2, h3)) (b1, k1, (b2, k2, k3)) =
     let e30 = e3.0 in
     ((λ i. calls (e20 i) (e30 i)), e3.1)
 
+-- One return.
 one_return : (x y : Pattern) (m n s r u : List ℕ) → label (returns x m) s r → label (returns y n) s u → (returns x m ≡ returns y n) × (r ≡ u)
 one_return x y m n s r u (a1, h1, (a2, h2, (a3, h3, h4))) (b1, k1, (b2, k2, (b3, k3, k4))) =
     let e1 = one_word (codes "ret") (codes "ret") s a1 b1 h1 k1 in
@@ -170,6 +186,7 @@ no_keyword v (variable w) s r u n h (f, k) = apart (same w v) ((bytes_eq-Decides
 no_keyword v (unlike w) s r u n h (f, (a, k, l)) = clash (pieces.word v) (pieces.mark 33) v (33 ∷ []) s r a (λ e. omega arith) h k
 no_keyword v (constant w) s r u n h (f, (a, k, l)) = clash (pieces.word v) (pieces.mark 60) v (60 ∷ []) s r a (λ e. omega arith) h k
 
+-- `call` is not `ret`.
 two_keywords : {A : Type 0} (s r u : List ℕ) → word (codes "call") s r → word (codes "ret") s u → A
 two_keywords s r u h k = apart (same (codes "call") (codes "ret")) ((bytes_eq-Decides (codes "call") (codes "ret")).1 (one_word (codes "call") (codes "ret") s r u h k).0) refl
 
@@ -180,9 +197,11 @@ star_whole (variable w) s r u v n h (f, k) l = clash (pieces.mark 42) (pieces.wo
 star_whole (unlike w) s r u v n h (f, (a, k, i)) l = clash (pieces.mark 42) (pieces.mark 33) (42 ∷ []) (33 ∷ []) s r a (λ e. omega arith) h k
 star_whole (constant w) s r u v n h (f, (a, k, i)) l = clash (pieces.mark 42) (pieces.mark 60) (42 ∷ []) (60 ∷ []) s r a (λ e. omega arith) h k
 
+-- `*` is no word.
 star_word : {A : Type 0} (v s r u : List ℕ) → mark 42 s r → word v s u → A
 star_word v s r u h k = clash (pieces.mark 42) (pieces.word v) (42 ∷ []) v s r u (λ e. omega arith) h k
 
+-- One label.
 one_label : (l m : Label) (s r u : List ℕ) → NoColon r → NoColon u → label l s r → label m s u → (l ≡ m) × (r ≡ u)
 one_label any_event any_event s r u n o h k = (refl, one_mark 42 s r u h k)
 one_label any_event (calls m ps) s r u n o h (b, k, i) = star_word (codes "call") s r b h k
@@ -210,6 +229,7 @@ spaces_only x b v u g (sp, (e, i, j)) =
     let w : Every space ((y.0 ∷ y.1) ++ u) = subst (λ (c : List ℕ). Every space (c ++ u)) y.2 z in
     apart (space y.0) w.0 y.4
 
+-- Spaces up to the end.
 all_spaces : (s : List ℕ) → spaces s [] → Every space s
 all_spaces s h = subst (Every space) (sym (h.2 ∙ append-nil h.0)) h.1
 
@@ -218,15 +238,18 @@ line_end : {A : Type 0} (x : Piece) (b v u : List ℕ) → (kind (pieces.mark 10
 line_end x b v u n (inl h) k = clash (pieces.mark 10) x (10 ∷ []) b v [] u n h k
 line_end x b v u n (inr h) k = spaces_only x b v u (all_spaces v h) k
 
+-- Where a line may end no other piece stands.
 lines_end : {A : Type 0} (xs : List Statement) (x : Piece) (b s v u : List ℕ) → (kind (pieces.mark 10) ≡ kind x → ⊥) → statement_lines xs s v → ending v [] → piece x b s u → A
 lines_end [] x b s v u n h e k = line_end x b v u n e (subst (λ (z : List ℕ). piece x b z u) h k)
 lines_end (y ∷ xs) x b s v u n (w, h, i) e k = clash (pieces.mark 10) x (10 ∷ []) b s w u n h k
 
+-- Behind the last label no `:` stands.
 no_colon : (ls : List Label) (xs : List Statement) (s u v : List ℕ) → more_labels ls s u → statement_lines xs u v → ending v [] → NoColon s
 no_colon [] xs s u v h l e w k = lines_end xs (pieces.mark 58) (58 ∷ []) u v w (λ e. omega arith) l e (subst (λ (z : List ℕ). mark 58 z w) h k)
 no_colon (y ∷ ls) xs s u v (a, h, i) l e w k = clash (pieces.mark 59) (pieces.mark 58) (59 ∷ []) (58 ∷ []) s a w (λ e. omega arith) h k
 
 -- STATEMENTS
+-- The same further labels.
 one_series : (ls ks : List Label) (xs ys : List Statement) (s u u' v v' : List ℕ) → more_labels ls s u → more_labels ks s u' → statement_lines xs u v → ending v []
     → statement_lines ys u' v' → ending v' [] → (ls ≡ ks) × (u ≡ u')
 one_series [] [] xs ys s u u' v v' h k l e l' e' = (refl, sym h ∙ k)
@@ -242,6 +265,7 @@ one_series (x ∷ ls) (y ∷ ks) xs ys s u u' v v' (a, h, (c, i, j)) (b, k, (d, 
     let q0 = q.0 in
     ((λ i. p0 i ∷ q0 i), q.1)
 
+-- One statement.
 one_statement : (x y : Statement) (xs ys : List Statement) (s u u' v v' : List ℕ) → statement_line x s u → statement_line y s u' → statement_lines xs u v → ending v []
     → statement_lines ys u' v' → ending v' [] → (x ≡ y) × (u ≡ u')
 one_statement x y xs ys s u u' v v' (a1, h1, (a2, h2, (a3, h3, (a4, h4, (a5, h5, (a6, h6, h7)))))) (b1, k1, (b2, k2, (b3, k3, (b4, k4, (b5, k5, (b6, k6, k7)))))) l e l' e' =
@@ -275,6 +299,7 @@ end_word : {A : Type 0} (s t w r : List ℕ) → ending s [] → newline s t →
 end_word s t w r (inl h) k i = no_word w t r (one_mark 10 s [] t h k) i
 end_word s t w r (inr h) k i = spaces_only (pieces.mark 10) (10 ∷ []) s t (all_spaces s h) k
 
+-- The same statements.
 one_rest : (xs ys : List Statement) (s v v' : List ℕ) → statement_lines xs s v → statement_lines ys s v' → ending v [] → ending v' [] → xs ≡ ys
 one_rest [] [] s v v' h k e e' = refl
 one_rest [] (y ∷ ys) s v v' h (b, k, (c, (d, i, j), l)) e e' = end_word s b y.source d (subst (λ (z : List ℕ). ending z []) (sym h) e) k i
@@ -287,6 +312,7 @@ one_rest (x ∷ xs) (y ∷ ys) s v v' (a, h, (c, i, j)) (b, k, (d, m, n)) e e' =
     λ i. p0 i ∷ q i
 
 -- METHODS
+-- One line of a method.
 one_method : (m n : Declared) (s u u' : List ℕ) → method_line m s u → method_line n s u' → (m ≡ n) × (u ≡ u')
 one_method m n s u u' (a1, h1, (a2, h2, (a3, h3, h4))) (b1, k1, (b2, k2, (b3, k3, k4))) =
     let e1 = one_word (codes "method") (codes "method") s a1 b1 h1 k1 in
@@ -306,6 +332,7 @@ no_statement (x ∷ xs) s b c v n (a, h, (d, (f, g, j), l)) e k i =
     let y = one_word x.source (codes "method") b f c (subst (λ (u : List ℕ). word x.source u f) z g) i in
     apart (same x.source (codes "method")) ((bytes_eq-Decides x.source (codes "method")).1 y.0) n
 
+-- The same methods.
 one_methods : (ms ns : List Declared) (xs ys : List Statement) (s u u' v v' : List ℕ) → NoMethod xs → NoMethod ys → method_lines ms s u → method_lines ns s u'
     → statement_lines xs u v → ending v [] → statement_lines ys u' v' → ending v' [] → (ms ≡ ns) × (u ≡ u')
 one_methods [] [] xs ys s u u' v v' n o h k l e l' e' = (refl, sym h ∙ k)
@@ -322,6 +349,7 @@ one_methods (m ∷ ms) (m' ∷ ns) xs ys s u u' v v' n o (a, h, (c, i, j)) (b, k
     ((λ i. p0 i ∷ q0 i), q.1)
 
 -- THE TEXT
+-- One name.
 one_title : (w v s r u : List ℕ) → first_line w s r → first_line v s u → (w ≡ v) × (r ≡ u)
 one_title w v s r u (a, (sp, g, h), (c, i, j)) (b, (sq, f, k), (d, m, n)) =
     let z = run_unique space sp sq a b g f (subst (Stops space) (sym i) refl) (subst (Stops space) (sym m) refl) (sym h ∙ k) in
@@ -331,6 +359,7 @@ one_title w v s r u (a, (sp, g, h), (c, i, j)) (b, (sq, f, k), (d, m, n)) =
     behind : codes "property " ++ c ≡ codes "property " ++ d → c ≡ d
     behind e = cc
 
+-- One tree.
 pub one_tree : (t : List ℕ) (A B : Tree) → Spells A t → Spells B t → A ≡ B
 one_tree t A B (n, (a1, h1, (a2, h2, (a3, h3, h4)))) (o, (b1, k1, (b2, k2, (b3, k3, k4)))) =
     let e1 = one_title A.name B.name t a1 b1 h1 k1 in

@@ -46,10 +46,11 @@ small_word w s r = (small (first_byte w) ≡ true) × word w s r
 abbrev pub number : ℕ → Spelling
 number n s r = (d : List ℕ) × (value d ≡ n) × piece (pieces.number d) d s r
 
--- The mark with the code c, and a line's end.
+-- The mark with the code c.
 abbrev pub mark : ℕ → Spelling
 mark c = piece (pieces.mark c) (c ∷ [])
 
+-- A line's end.
 abbrev pub newline : Spelling
 newline = mark 10
 
@@ -62,6 +63,7 @@ abbrev pub becomes : Spelling
 becomes = sign ":" ⨾ bytes (codes "=")
 
 -- PATTERNS AND LABELS
+-- `*`, `name`, `!name` or `<name>`.
 abbrev pub pattern : Pattern → Spelling
 pattern anything = sign "*"
 pattern (variable w) = word w
@@ -93,6 +95,7 @@ NoKeyword (constant w) = Unit {0}
 abbrev pub leading : Pattern → Spelling
 leading p s r = NoKeyword p × pattern p s r
 
+-- `*`, `call m(ps)`, `ret p := m` or `p := m(ps)`.
 abbrev pub label : Label → Spelling
 label any_event = sign "*"
 label (calls m ps) = word (codes "call") ⨾ word m ⨾ parameters ps
@@ -109,17 +112,20 @@ more_labels (l ∷ ls) = sign ";" ⨾ label l ⨾ more_labels ls
 abbrev pub first_line : List ℕ → Spelling
 first_line w = spaces ⨾ bytes (codes "property ") ⨾ word w
 
+-- `method NAME NUMBER ARITY`.
 abbrev pub method_line : Declared → Spelling
 method_line m = word (codes "method") ⨾ word m.name ⨾ number m.number ⨾ number m.arity
 
+-- `SOURCE -> TARGET: LABEL; LABEL; ..`.
 abbrev pub statement_line : Statement → Spelling
 statement_line x = word x.source ⨾ sign "-" ⨾ bytes (codes ">") ⨾ word x.target ⨾ sign ":" ⨾ label x.first ⨾ more_labels x.others
 
--- Further lines: each begins behind the end of the line before it.
+-- Further lines of methods: each begins behind the end of the line before it.
 abbrev pub method_lines : List Declared → Spelling
 method_lines [] = nothing
 method_lines (m ∷ ms) = newline ⨾ method_line m ⨾ method_lines ms
 
+-- Further lines of statements.
 abbrev pub statement_lines : List Statement → Spelling
 statement_lines [] = nothing
 statement_lines (x ∷ xs) = newline ⨾ statement_line x ⨾ statement_lines xs
@@ -134,6 +140,7 @@ abbrev pub ending : Spelling
 ending s r = newline s r ⊎ spaces s r
 
 -- THE TEXT
+-- All lines of a tree.
 abbrev pub lines : Tree → Spelling
 lines A = first_line A.name ⨾ method_lines A.methods ⨾ statement_lines A.statements ⨾ ending
 
