@@ -1,6 +1,6 @@
 -- A text is accepted as one property or refused with one flaw, and constants are read in one way.
-use Rattle.std.proofs.Common.{◌≡◌, ℕ, suc, ◌+◌, ◌-◌, ◌<◌, ◌≤◌, Bool, cond, ◌==◌, ◌⊎◌, List, [], ◌∷◌, length, drop, Some, None, Ok, Err, Result, sym, refl, ap, ◌∙◌, subst, inl, inr, arith, length-drop}
-use Rattle.forms.specs.Forms.{Accepted, Refused, Before}
+use Rattle.std.proofs.Common.{◌≡◌, ℕ, ◌<◌, ◌≤◌, cond, ◌==◌, ◌⊎◌, List, ◌∷◌, length, drop, Some, Ok, Err, Result, sym, refl, ap, ◌∙◌, subst, inl, inr, arith, length-drop}
+use Rattle.forms.specs.Forms.{Before}
 use Rattle.kinds.specs.Readings.{Reading}
 use Rattle.kinds.specs.Refusals.{text_number}
 use Rattle.kinds.specs.declared.refusal.Fault.{Fault}

@@ -10,12 +10,11 @@ use Rattle.kinds.specs.declared.refusal.Fault.{Fault}
 use Rattle.kinds.specs.declared.refusal.Refusal.{Refusal}
 use Rattle.topl.specs.Ledger.{initial}
 use Rattle.topl.specs.Lists.{Class}
-use Rattle.topl.specs.Theorems.{seen}
 use Rattle.sources.specs.Events.{Happening}
 use Rattle.sources.specs.Opening.{head_refusal}
 use Rattle.property.specs.States.{Property}
 use Rattle.limits.specs.Tables.{table_of}
-use Rattle.judging.specs.Outcomes.{Outcome, refused, but_steps, SameButSteps, Ends, ConstantsRead, ComesBy, Comes, Judged, text_refused, head_refused, constants_refused, begin_refused, judged}
+use Rattle.judging.specs.Outcomes.{Outcome, refused, SameButSteps, Ends, ConstantsRead, ComesBy, Comes, Judged, text_refused, head_refused, constants_refused, begin_refused, judged}
 use Rattle.judging.specs.Ways.{events}
 use Rattle.judging.proofs.Fates.{one_end}
 use Rattle.judging.proofs.Once.{same_property, not_both, same_flaw, one_reading}
@@ -38,7 +37,7 @@ module _ {V : Type 0} where
 
 module _ {V : Type 0} (reads : List ℕ → Result (V × ℕ) Fault) (longest : ℕ) (bounded : (bs : List ℕ) → Reading longest bs (reads bs)) (number : ℕ) (class : V → Class)
     (text journal constants : List ℕ) where
-  -- one outcome of a day, and another
+  -- the day comes out so
   abbrev By : Outcome → Type 0
   By o = ComesBy reads number class text journal constants o
 
