@@ -19,7 +19,7 @@ use Rattle.property.specs.declared.table.Slot.{Slot}
 use Rattle.property.specs.declared.table.Statement.{Statement}
 use Rattle.limits.specs.Tables.{pattern, placed, parameters, matcher, spanned, statement, method, constants_from, table_of}
 use Rattle.limits.specs.Limits.{written_by, writes, Variable, PatternFits, SlotFits, CallFits, AnswerFits, EventFits, StatementFits, MethodFits, Within, states}
-use Rattle.limits.proofs.Lists.{of_all, map_twice, each_map}
+use Rattle.limits.proofs.Members.{of_all, map_twice, each_map}
 use Rattle.limits.proofs.Lowering.{call_parameters, statement_events, statement_some, statement_matchers, constant_at, constants_below, constants_distinct}
 
 -- A pattern writes in the table what it writes in the text.

@@ -12,7 +12,7 @@ use Rattle.property.specs.declared.table.Event.{Event}
 use Rattle.property.specs.declared.table.Statement.{Statement}
 use Rattle.limits.specs.Tables.{parameters, spanned, matcher, statement, constants_from}
 use Rattle.limits.specs.Limits.{CallFits, AnswerFits, StatementFits, MethodFits}
-use Rattle.limits.proofs.Lists.{of_all, first_and_others}
+use Rattle.limits.proofs.Members.{of_all, first_and_others}
 
 module _ {ms : List Declared} {gs : List Key} (numbered : All MethodFits ms) where
   -- A call that fits has at most five parameters.

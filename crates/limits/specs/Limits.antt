@@ -1,5 +1,5 @@
 -- What holds of every property that an accepted text writes.
-use Rattle.std.specs.Prelude.{◌≡◌, ℕ, ◌+◌, ◌<◌, ◌≤◌, Bool, false, List, [], ◌∷◌, map, length, get_or, All}
+use Rattle.std.specs.Prelude.{◌≡◌, ℕ, ◌+◌, ◌<◌, ◌≤◌, false, List, [], ◌∷◌, map, length, get_or, All}
 use Rattle.topl.specs.Lists.{◌∈◌, each, Distinct}
 use Rattle.topl.specs.declared.pattern.Pattern.{Pattern}
 use Rattle.topl.specs.declared.pattern.Pattern.TheVariants as patterns

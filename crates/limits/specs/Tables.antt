@@ -1,5 +1,5 @@
 -- The table of the theory that a property stands for.
-use Rattle.std.specs.Prelude.{ℕ, suc, Bool, cond, List, [], ◌∷◌, map, take, drop, slice_index_or}
+use Rattle.std.specs.Prelude.{ℕ, suc, cond, List, [], ◌∷◌, map, take, drop, slice_index_or}
 use Rattle.topl.specs.Table as T
 use Rattle.topl.specs.declared.pattern.Pattern.{Pattern}
 use Rattle.topl.specs.declared.pattern.Pattern.TheVariants as patterns

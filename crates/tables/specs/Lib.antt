@@ -1,3 +1,5 @@
-pub mod Views
-pub mod Properties
+pub mod Called
+pub mod Fits
 pub mod Meant
+pub mod Properties
+pub mod Views

@@ -11,6 +11,14 @@ pub struct Register {
 }
 
 impl Register {
+    // The register at a place among the eight.
+    pub(crate) fn at(place: usize) -> Register
+        requires { place < 8 }
+        ensures { result.at ≡ place }
+    {
+        Register { at: place as u8 }
+    }
+
     // Its place among the eight.
     pub fn place(self) -> usize
         ensures is { result ≡ self.at }

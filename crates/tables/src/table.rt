@@ -7,6 +7,8 @@ use crate::parts::{Register, Statement};
 use property::table::{Method, Name, Register as Named};
 
 pub mod calls;
+mod made;
+mod names;
 
 // What a text writes: the property's name, its methods, its states but for `start` and `error`, and the constants and variables of its registers, by their
 // places in the text; the registers of the constants in order of first appearance, and the written statements.

@@ -5,6 +5,7 @@ ghost use Rattle.paths.specs.Outcomes.{Written, Refuses};
 ghost use Rattle.tables.specs.Meant.{Holds};
 
 use crate::table::Table;
+use property::draft::Draft;
 use property::text::Failure;
 use std::alloc::Global;
 
@@ -12,5 +13,8 @@ use std::alloc::Global;
 pub fn read(heap: Global, text: &[u8], table: &mut Table) -> Result<(), Failure>
     ensures { MatchResult result (λ _. (P : Property) × Written text.now P × Holds table.new P) (λ e. Refuses text.now e × (table.new ≡ table.old)) }
 {
-    Err(Failure::Memory)
+    let mut draft = Draft::new(heap);
+    paths::text::read(heap, text, &mut draft)?;
+    *table = Table::of(heap, text, draft)?;
+    Ok(())
 }

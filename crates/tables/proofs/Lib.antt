@@ -1,0 +1,3 @@
+pub mod Calling
+pub mod Fitted
+pub mod Held

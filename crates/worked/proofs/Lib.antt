@@ -1,0 +1,4 @@
+mod Days
+mod Lexemes
+mod Reading
+mod Written
