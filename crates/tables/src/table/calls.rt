@@ -1,5 +1,5 @@
 // Making a table, and what it tells.
-ghost use Rattle.std.specs.Prelude.{◌≡◌, ◌+◌, ◌≤◌, length};
+ghost use Rattle.std.specs.Prelude.{◌≡◌, ◌≤◌, length};
 ghost use Rattle.topl.specs.Table.{empty_table};
 ghost use Rattle.tables.specs.Meant.{meant, names, no_names};
 
@@ -45,26 +45,5 @@ impl Table {
         ensures few { length result.now ≤ 64 }
     {
         &self.statements
-    }
-
-    // The property's name.
-    pub fn name(&self) -> &[u8]
-        ensures { result.now ≡ (names self.now).name }
-    {
-        self.text.get(self.name.from..self.name.to).unwrap_or(&[])
-    }
-
-    // How many states the property has.
-    pub fn state_count(&self) -> usize
-        ensures { result ≡ 2 + length (names self.now).others }
-    {
-        self.others.len().saturating_add(2)
-    }
-
-    // How many registers the property's constants and variables take.
-    pub fn register_count(&self) -> usize
-        ensures { result ≡ length (names self.now).registers }
-    {
-        self.registers.len()
     }
 }
