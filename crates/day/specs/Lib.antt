@@ -4,4 +4,5 @@ pub mod Explaining
 pub mod Lines
 pub mod Listing
 pub mod Naming
+pub mod Reporting
 pub mod Spots

@@ -6,4 +6,5 @@ mod explain;
 pub mod listing;
 pub mod methods;
 mod page;
+pub mod report;
 mod shown;

@@ -1,0 +1,5 @@
+// A whole day judged: a property text, a journal and the values of the constants in, an outcome out.
+#![tactic(auto)]
+
+pub mod judge;
+pub mod outcome;
