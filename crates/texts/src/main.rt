@@ -4,7 +4,7 @@
 use anyhow::{Context, anyhow};
 use day::check::first_line;
 use std::fs::File;
-use std::io::{BufRead, BufReader};
+use std::io::{BufRead, BufReader, Write};
 use vectors::day::Day;
 
 // The file of the texts.
@@ -24,19 +24,23 @@ fn passes(day: &Day, line: &[u8]) -> bool {
     }
 }
 
-// Checks every line of the file, and prints those that differ and how many pass and fail.
+// Checks every line of the file, and prints what differs and how many pass and fail.
 fn run(rt: &HostRuntime) -> anyhow::Result<()> {
     let file = File::open(rt, PATH).context(format_args!("cannot open {PATH}"))?;
     let mut passed = 0u64;
     let mut failed = 0u64;
-    for (number, line) in BufReader::new(rt.alloc(), file)?.lines(rt.alloc()).enumerate() {
-        let day = Day::read(rt.alloc(), line?.as_str()).map_err(|fault| anyhow!("line {}: {fault:?}", number + 1))?;
+    for written in BufReader::new(rt.alloc(), file)?.lines(rt.alloc()) {
+        let written = written?;
+        let day = Day::read(rt.alloc(), written.as_str()).map_err(|fault| anyhow!(
+            "{fault:?}: {written}"
+        ))?;
         let line = first_line(rt.alloc(), &day.text)?;
         if passes(&day, &line) {
-            passed += 1;
+            passed = passed.saturating_add(1);
         } else {
-            failed += 1;
-            println!(rt; "differs: line {}", number + 1)?;
+            failed = failed.saturating_add(1);
+            println!(rt; "not as in {written}:")?;
+            rt.stdout().write_all(&line)?;
         }
     }
     println!(rt; "{passed} passed, {failed} failed")?;

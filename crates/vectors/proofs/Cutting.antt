@@ -1,14 +1,13 @@
 -- Lines cut at their tabs. Assumes nothing.
-use Rattle.std.proofs.Common.{◌≡◌, ℕ, ◌+◌, ◌<◌, ◌⊎◌, Bool, cond, not, true, false, List, [], ◌∷◌, ◌++◌, Option, Some, None, MatchOption, Bor, length, take, get_or, ap, sym, ◌∙◌, refl, arith, count_by, eqb, inl, inr}
-use Rattle.std.specs.List.{before_first, after_first, position_or_len, take_while}
+use Rattle.std.proofs.Common.{◌≡◌, ℕ, ◌+◌, ◌<◌, Bool, cond, not, true, false, List, [], ◌∷◌, ◌++◌, Option, Some, None, MatchOption, Bor, length, take, get_or, ap, sym, ◌∙◌, refl, arith, count_by, inl, inr}
+use Rattle.std.specs.List.{before_first, after_first, position_or_len}
 use Rattle.std.proofs.Math.Seq.{take-length}
 use Rattle.std.proofs.lemmas.Bool.{eqb-true}
-use Rattle.std.proofs.lemmas.List.Sums.{sum_by-append, sum_by-cons, take_while-cons, split_at_first, passes_at_first}
+use Rattle.std.proofs.lemmas.List.Sums.{sum_by-cons, take_while-cons, split_at_first, passes_at_first}
 use Rattle.vectors.specs.Days.{Cut, Parts, Unwritten, tab}
 use Rattle.vectors.specs.Read.{Unread, not_hex, memory}
 use Rattle.vectors.specs.Days as fields
 use Rattle.vectors.specs.declared.hex_field.Fault.{Fault}
-use Rattle.vectors.specs.declared.hex_field.Fault.TheVariants.{NotHex, Memory}
 
 -- Nothing before the first that passes does.
 none_before : {X : Type 0} (p : X → Bool) (xs : List X) → count_by p (before_first p xs) ≡ 0
@@ -16,10 +15,10 @@ none_before p [] = refl
 none_before {X} p (x ∷ xs) =
     let step = take_while-cons (λ (y : X). not (p y)) x xs in
     let last : count_by p (cond (not (p x)) (x ∷ before_first p xs) []) ≡ 0 =
-        elim (p x) as (λ (b : Bool). b ≡ p x → count_by p (cond (not b) (x ∷ before_first p xs) []) ≡ 0) [
-          | true ↦ λ _. refl
-          | false ↦ λ e. sum_by-cons (λ (y : X). cond (p y) 1 0) x (before_first p xs) ∙ (ap (λ (b : Bool). cond b 1 0 + count_by p (before_first p xs)) (sym e) ∙ (omega (arith, none_before p xs)))
-        ] refl in
+    elim (p x) as (λ (b : Bool). b ≡ p x → count_by p (cond (not b) (x ∷ before_first p xs) []) ≡ 0) [
+      | true ↦ λ _. refl
+      | false ↦ λ e. sum_by-cons (λ (y : X). cond (p y) 1 0) x (before_first p xs) ∙ (ap (λ (b : Bool). cond b 1 0 + count_by p (before_first p xs)) (sym e) ∙ (omega (arith, none_before p xs)))
+    ] refl in
     ap (λ (zs : List X). count_by p zs) step ∙ last
 
 -- A line in two at its first tab, or without one.
@@ -36,32 +35,17 @@ cut_of line (Some x) h =
       first = ap (λ (z : List ℕ). count_by tab z) h.1 ∙ none_before tab line;
     }
 
--- A line has one tab more than what stands behind its first.
-pub one_more_tab : (line front back : List ℕ) → Cut line front back → count_by tab line ≡ 1 + count_by tab back
-one_more_tab line front back c =
-    let weight : ℕ → ℕ = λ b. cond (tab b) 1 0 in
-    let whole = sum_by-append weight front (9 ∷ back) in
-    let tail = sum_by-cons weight 9 back in
-    ap (λ (z : List ℕ). count_by tab z) c.joined ∙ (whole ∙ omega (arith, tail, c.first))
-
--- Three cuts make four fields.
-pub four_parts : (line a b c e r s : List ℕ) → Cut line a r → Cut r b s → Cut s c e → Parts line a b c e
-four_parts line a b c e r s one two three = record {
-  joined = one.joined ∙ ap (λ (z : List ℕ). a ++ (9 ∷ z)) (two.joined ∙ ap (λ (z : List ℕ). b ++ (9 ∷ z)) three.joined);
-  text_free = one.first;
-  journal_free = two.first;
-  constants_free = three.first;
-}
-
--- No day comes of a line one of whose fields gives no bytes.
+-- No day comes of a line whose first field gives no bytes,
 pub text_unread : (line a b c e : List ℕ) (f : Fault) → Parts line a b c e → Unwritten a f → Unread line f
 text_unread line a b c e _ p (fields.not_hex n) = not_hex a b c e p (inl (fields.not_hex n))
 text_unread line a b c e _ p fields.memory = memory
 
+-- nor of one whose second gives none,
 pub journal_unread : (line a b c e : List ℕ) (f : Fault) → Parts line a b c e → Unwritten b f → Unread line f
 journal_unread line a b c e _ p (fields.not_hex n) = not_hex a b c e p (inr (inl (fields.not_hex n)))
 journal_unread line a b c e _ p fields.memory = memory
 
+-- nor of one whose third gives none.
 pub constants_unread : (line a b c e : List ℕ) (f : Fault) → Parts line a b c e → Unwritten c f → Unread line f
 constants_unread line a b c e _ p (fields.not_hex n) = not_hex a b c e p (inr (inr (fields.not_hex n)))
 constants_unread line a b c e _ p fields.memory = memory

@@ -1,4 +1,4 @@
-use Rattle.std.proofs.Common.{◌≡◌, ℕ, List, Bool, true, false, codes, ap, sym, ◌∙◌}
+use Rattle.std.proofs.Common.{◌≡◌, ℕ, List, codes, ap, ◌∙◌}
 use Rattle.vectors.proofs.Hex.{unwritten}
 use Rattle.vectors.proofs.hex_field.field_bytes.Goals as goal
 use lib.Dec.{eqb}

@@ -1,4 +1,3 @@
-use Rattle.std.proofs.Common.{MatchResult}
 use Rattle.std.proofs.lemmas.Result.{err_from_is_err_and}
 use Rattle.vectors.specs.Read.{few, memory}
 use Rattle.vectors.proofs.Cutting.{text_unread, journal_unread, constants_unread}
