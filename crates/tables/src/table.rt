@@ -1,5 +1,5 @@
 // The table of a property.
-ghost use Rattle.std.specs.Prelude.{◌≡◌, true};
+ghost use Rattle.std.specs.Prelude.{◌≡◌, ◌+◌, ◌≤◌, true, length};
 ghost use Rattle.topl.specs.Table.{is_lawful};
 ghost use Rattle.tables.specs.Properties.{table};
 
@@ -22,5 +22,7 @@ pub struct Table {
     registers: Vec<Named>,
     constants: Vec<Register>,
     statements: Vec<Statement>,
+    ghost few_states: { 2 + length others.items ≤ 16 },
+    ghost few_registers: { length registers.items ≤ 8 },
     ghost lawful: { is_lawful (table methods.items constants.items statements.items) ≡ true },
 }
