@@ -1,6 +1,6 @@
 // Days whose journals are too long for a line of a file: one record again and again, and others after it.
-use crate::line::Day;
 use std::alloc::{AllocError, Global};
+use vectors::day::Day;
 
 // A property that the last record of such a day breaks.
 const TEXT: &[u8] = b"property Long\nmethod m 1 3\nstart -> error: call m(*, *, *)\n";

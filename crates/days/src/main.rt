@@ -1,7 +1,6 @@
 // Judges days whose outcome is known: it compares the first line of each report, walks each run that is shown, and prints what differs.
 #![tactic(auto)]
 
-mod line;
 mod long;
 mod misstep;
 mod shown;
@@ -10,15 +9,15 @@ mod tally;
 mod tests;
 mod walk;
 
-use crate::line::Day;
 use crate::long::long_days;
 use crate::misstep::Misstep;
 use crate::shown::Shown;
 use crate::tally::Tally;
-use anyhow::Context;
+use anyhow::{Context, anyhow};
 use day::report::report;
 use std::alloc::Global;
 use std::fs;
+use vectors::day::Day;
 
 // The files of days, a day in each line.
 const FILES: [&str; 4] = ["days.txt", "texts.txt", "journals.txt", "limits.txt"];
@@ -57,7 +56,9 @@ fn judge_file(rt: &HostRuntime, file: &str, tally: &mut Tally) -> anyhow::Result
     let lines = fs::read_to_string(rt, file).context(format_args!("cannot read {file}"))?;
     for (i, line) in lines.lines().enumerate() {
         let number = i.saturating_add(1);
-        let day = Day::read(rt.alloc(), line).context(format_args!("{file} {number}"))?;
+        let day = Day::read(rt.alloc(), line).map_err(|fault| anyhow!(
+            "{file} {number}: {fault:?}"
+        ))?;
         tally.count(passes(rt, &day, file, number)?);
     }
     Ok(())
