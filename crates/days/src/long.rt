@@ -1,16 +1,15 @@
 // Days whose journals are too long for a line of a file: one record again and again, and others after it.
+use kinds::kind::Kind;
+use kinds::labels::Labels;
+use kinds::numbers::Numbers;
 use std::alloc::{AllocError, Global};
 use vectors::day::Day;
 
 // A property that the last record of such a day breaks.
 const TEXT: &[u8] = b"property Long\nmethod m 1 3\nstart -> error: call m(*, *, *)\n";
 
-// The version of a journal, and the kinds of its values.
+// The version of a journal.
 const VERSION: u8 = 1;
-
-const NUMBERS: u8 = 1;
-
-const LABELS: u8 = 2;
 
 // A call of method 0 with no value.
 const IDLE: &[u8] = b"\x00\x00";
@@ -26,16 +25,18 @@ const LONGEST: &[u8] =
 const LONGEST_LABELLED: &[u8] =
     b"\xFE\xFF\x07\x05\x10radiator-kitchen\x10radiator-kitchen\x10radiator-kitchen\x10radiator-kitchen\x10radiator-kitchen";
 
-// A call of m of 21 bytes, and one of 22.
+// A call of m of 21 bytes, which fills a journal of the longest records.
 const LAST: &[u8] =
     b"\x02\x03\xFF\xFF\xFF\xFF\xFF\xFF\xFF\xFF\x7F\xFF\xFF\xFF\xFF\xFF\xFF\xFF\xFF\x7F\x00";
 
+// One of 22 bytes, one too many.
 const LONGER_LAST: &[u8] =
     b"\x02\x03\xFF\xFF\xFF\xFF\xFF\xFF\xFF\xFF\x7F\xFF\xFF\xFF\xFF\xFF\xFF\xFF\xFF\x7F\x80\x01";
 
-// The same with labels, of 30 bytes and of 31.
+// A call of m of 30 bytes, with labels, which fills one too.
 const LAST_LABELLED: &[u8] = b"\x02\x03\x10radiator-kitchen\x05day-1\x04HW-1";
 
+// One of 31 bytes, one too many.
 const LONGER_LAST_LABELLED: &[u8] = b"\x02\x03\x10radiator-kitchen\x05day-1\x05HW-12";
 
 // Such a day: the kind, a record and how often it comes, the bytes after it, and what is expected.
@@ -51,7 +52,7 @@ pub(crate) struct Long {
 // A day of numbers that is idle so many times.
 fn idle(times: usize, last: &'static [u8], expected: &'static str) -> Long {
     Long {
-        kind: NUMBERS,
+        kind: Numbers::NUMBER,
         record: IDLE,
         times,
         last,
@@ -62,7 +63,7 @@ fn idle(times: usize, last: &'static [u8], expected: &'static str) -> Long {
 // A day of records of full length and a last one, in a journal of 65,536 bytes or one more.
 fn full(last: &'static [u8], expected: &'static str) -> Long {
     Long {
-        kind: NUMBERS,
+        kind: Numbers::NUMBER,
         record: LONGEST,
         times: 1_337,
         last,
@@ -73,7 +74,7 @@ fn full(last: &'static [u8], expected: &'static str) -> Long {
 // The same with labels.
 fn full_labelled(last: &'static [u8], expected: &'static str) -> Long {
     Long {
-        kind: LABELS,
+        kind: Labels::NUMBER,
         record: LONGEST_LABELLED,
         times: 736,
         last,

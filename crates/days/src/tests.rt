@@ -53,12 +53,15 @@ const READS_LATE: Day = Day {
     journal: b"\x01\x01\x02\x02\x01\x02\x02\x02\x03\x03",
 };
 
+// A property of three statements over two registers.
 const STALE_TEXT: &[u8] =
     b"property Stale\nmethod fetch 3 1\nmethod apply 4 2\nmethod midnight 5 0\nstart -> held: S := fetch(F)\nheld -> stale: call midnight()\nstale -> error: call apply(f, s)\n";
 
+// A property whose statements from one state hang and pass beside each other.
 const WAIT_TEXT: &[u8] =
     b"property Wait\nmethod g 1 0\nmethod p 2 0\nmethod r 3 0\nmethod z 4 0\nstart -> a: call g()\na -> done: call p(); call r(); call z()\na -> error: call r()\n";
 
+// A property of an event that writes and reads one register.
 const READS_TEXT: &[u8] =
     b"property Reads\nmethod m 1 2\nstart -> a: call m(X, *)\na -> error: call m(X, x)\n";
 
