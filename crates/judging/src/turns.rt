@@ -7,7 +7,7 @@ ghost use Rattle.topl.specs.Table.{Table as Property, Event};
 ghost use Rattle.kinds.specs.Refusals.{Ending};
 ghost use Rattle.tables.specs.Meant.{meant};
 ghost use Rattle.watch.specs.Shows.{Shows};
-ghost use Rattle.judging.specs.Outcomes.{Ends, Quiet, broken, refused, watch_refuses};
+ghost use Rattle.judging.specs.Outcomes.{Ends, broken, refused, watch_refuses};
 ghost use Rattle.judging.specs.Ways.{Gives, ComesOut, Drawn, HasBegun, Stood, events, running_on};
 ghost use Rattle.kinds.specs.declared.refusal.Reason.TheVariants.{Watch as of_watch};
 ghost use Rattle.kinds.specs.declared.watch_reason.WatchReason.TheVariants.{OtherConstants};
