@@ -56,7 +56,10 @@ fn draws_the_stale_day<S: Source<Numbers>>(
 fn posted(heap: Global, journal: &[u8]) -> Result<Mailbox<Numbers>, Fail> {
     let mut mailbox = Mailbox::new(heap, 8)?;
     let mut journal: Journal<Numbers> = Journal::open(journal)?;
-    while let Some(event) = journal.next()? {
+    for _ in 0..8 {
+        let Some(event) = journal.next()? else {
+            break;
+        };
         mailbox.put(event.id(), event.values())?;
     }
     Ok(mailbox)
