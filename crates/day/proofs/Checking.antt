@@ -1,7 +1,8 @@
 -- What stands on a page that was empty before a text was checked. Assumes nothing.
 use Rattle.std.proofs.Common.{◌≡◌, ℕ, List, [], ◌++◌, ap, sym, ◌∙◌, subst, None, Some, Option}
 use Rattle.property.specs.declared.reader.Flaw.{Flaw}
-use Rattle.day.specs.Checking.{Checked, FirstLine, property_line, refusal_of}
+use Rattle.day.specs.Checking.{Checked, FirstLine, property_line}
+use Rattle.tables.specs.Refusals.{refusal_of}
 use Rattle.day.specs.Checking as lines
 use Rattle.day.specs.Counting.{PrintsFirst, accepted, refused}
 use Rattle.day.specs.Explaining.{explanation}

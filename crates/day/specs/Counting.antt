@@ -5,7 +5,8 @@ use Rattle.paths.specs.Outcomes.{Written, Refuses}
 use Rattle.property.specs.States.{Property}
 use Rattle.property.specs.declared.reader.Flaw.{Flaw}
 use Rattle.property.specs.declared.text.Failure.TheVariants.{At}
-use Rattle.day.specs.Checking.{counted, property_line, refusal_of}
+use Rattle.day.specs.Checking.{counted, property_line}
+use Rattle.tables.specs.Refusals.{refusal_of}
 use Rattle.day.specs.Lines.{refusal_line, written}
 use Rattle.day.specs.declared.check.Counts.{Counts}
 use Rattle.day.specs.declared.page.Page.{Page}

@@ -26,10 +26,6 @@ left text place = since_end (take place text)
 abbrev pub right : List ℕ → ℕ → List ℕ
 right text place = before_first ends (drop place text)
 
--- Which byte of its line a place is, from 1.
-abbrev pub column : List ℕ → ℕ → ℕ
-column text place = length (left text place) + 1
-
 -- A byte as it is shown: itself where it can be printed, and `?` else.
 abbrev pub shown_byte : ℕ → ℕ
 shown_byte b = cond (nat_le 32 b && nat_le b 126) b 63

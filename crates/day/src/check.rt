@@ -3,18 +3,18 @@ ghost use Rattle.std.specs.Prelude.{◌≡◌, ℕ, List, IfOk};
 ghost use Rattle.property.specs.States.{Property};
 ghost use Rattle.tables.specs.Meant.{Holds};
 ghost use Rattle.day.specs.Lines.{Writes, refusal_line};
-ghost use Rattle.day.specs.Checking.{Checked, FirstLine, refusal_of};
+ghost use Rattle.day.specs.Checking.{Checked, FirstLine};
+ghost use Rattle.tables.specs.Refusals.{refusal_of};
 ghost use Rattle.day.specs.Counting.{PrintsFirst, Tells, counts_line};
 
 pub use crate::explain::MOST_BYTES;
 use crate::explain::explain;
 use crate::page::Page;
-use kinds::refusal::{Layer, Reason};
 use property::reader::Flaw;
 use property::text::Failure;
 use std::alloc::{AllocError, Global};
 use tables::table::Table;
-use tables::text::read;
+use tables::text::{read, refusal};
 
 // What is told of an accepted property: its name, and how many methods, states, statements and registers it has.
 #[derive(Clone, Copy)]
@@ -58,8 +58,7 @@ impl<'a> Counts<'a> {
 fn print_flaw(page: &mut Page, flaw: Flaw) -> Result<(), AllocError>
     ensures { Writes result page.old (refusal_line (refusal_of flaw)) page.new }
 {
-    let refusal = Layer::Text.refusal(Reason::from(flaw.reason), flaw.place);
-    writeln!(page, "refused {refusal}")
+    page.write_refusal(&refusal(flaw))
 }
 
 // Prints the first line that is printed of a property text, and hands out the fault of one that is refused.

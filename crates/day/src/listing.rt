@@ -67,15 +67,8 @@ fn print_ending(
 {
     match ending {
         Ok(()) => writeln!(page, "end {count}"),
-        Err(refusal) => print_refusal(page, &refusal),
+        Err(refusal) => page.write_refusal(&refusal),
     }
-}
-
-// Prints the line that tells a refusal.
-fn print_refusal(page: &mut Page, refusal: &Refusal) -> Result<(), AllocError>
-    ensures { Writes result page.old (refusal_line refusal.now) page.new }
-{
-    writeln!(page, "refused {refusal}")
 }
 
 // Prints the line that names the kind.
@@ -115,7 +108,7 @@ fn print_journal<K: Shown>(
             Some(methods) => print_source::<K, _>(page, &mut Narrow::new(journal, methods)),
             None => print_source::<K, _>(page, &mut journal),
         },
-        Err(refusal) => print_refusal(page, &refusal),
+        Err(refusal) => page.write_refusal(&refusal),
     }
 }
 

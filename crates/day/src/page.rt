@@ -1,8 +1,9 @@
 // The bytes that a program is to print.
 ghost use Rattle.std.specs.Prelude.{◌≡◌, [], IfSome};
 ghost use Rattle.std.specs.Vec.{vec_allocator};
-ghost use Rattle.day.specs.Lines.{Writes, written};
+ghost use Rattle.day.specs.Lines.{Writes, refusal_line, written};
 
+use kinds::refusal::Refusal;
 use std::alloc::{AllocError, Global};
 use std::fmt::Display;
 
@@ -43,6 +44,13 @@ impl Page {
     {
         let text = String::format(self.heap(), value)?;
         self.write(text.as_str().as_bytes())
+    }
+
+    // Writes the line that tells a refusal.
+    pub(crate) fn write_refusal(&mut self, refusal: &Refusal) -> Result<(), AllocError>
+        ensures { Writes result self.old (refusal_line refusal.now) self.new }
+    {
+        writeln!(self, "refused {refusal}")
     }
 
     // All that was written.

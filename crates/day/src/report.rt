@@ -5,6 +5,7 @@ ghost use Rattle.day.specs.Lines.{Writes, ended, refusal_line};
 ghost use Rattle.day.specs.Reporting.{Reported, report_of, steps_line};
 
 use crate::page::Page;
+pub use judging::constants::MOST_CONSTANTS;
 use judging::judge::judge;
 use judging::outcome::Outcome;
 use std::alloc::{AllocError, Global};
@@ -44,7 +45,7 @@ fn print_outcome(page: &mut Page, outcome: &Outcome) -> Result<(), AllocError>
             writeln!(page, "broken {judged} {position}")?;
             print_steps(page, steps)
         }
-        Outcome::Refused(refusal) => writeln!(page, "refused {refusal}"),
+        Outcome::Refused(refusal) => page.write_refusal(refusal),
     }
 }
 

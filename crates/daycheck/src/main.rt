@@ -2,7 +2,7 @@
 #![tactic(auto)]
 
 use anyhow::{Context, ensure};
-use day::check::{MOST_BYTES, check};
+use day::check::check;
 use std::env;
 use std::fs::File;
 use std::io::{Read, Write};
@@ -11,12 +11,11 @@ fn main(rt: HostRuntime) -> anyhow::Result<()> {
     run(&rt)
 }
 
-// The first bytes of a file: one more than a text may have, so that a longer one is told from it.
-fn first_bytes(rt: &HostRuntime, path: &str) -> anyhow::Result<Vec<u8>> {
+// The bytes of a file.
+fn bytes_of(rt: &HostRuntime, path: &str) -> anyhow::Result<Vec<u8>> {
     let mut bytes = Vec::new(rt.alloc());
     File::open(rt, path)
         .context(format_args!("cannot open {path}"))?
-        .take(MOST_BYTES as u64 + 1)
         .read_to_end(&mut bytes)
         .context(format_args!("cannot read {path}"))?;
     Ok(bytes)
@@ -34,8 +33,8 @@ fn path(rt: &HostRuntime) -> anyhow::Result<Option<String>> {
 fn run(rt: &HostRuntime) -> anyhow::Result<()> {
     let path = path(rt)?;
     let text = match &path {
-        Some(path) => first_bytes(rt, path.as_str())?,
-        None => first_bytes(rt, "property.txt")?,
+        Some(path) => bytes_of(rt, path.as_str())?,
+        None => bytes_of(rt, "property.txt")?,
     };
     let out = check(rt.alloc(), &text)?;
     rt.stdout().write_all(&out)?;

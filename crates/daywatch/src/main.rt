@@ -2,27 +2,26 @@
 #![tactic(auto)]
 
 use anyhow::Context;
-use day::check::MOST_BYTES as MOST_TEXT;
-use day::listing::MOST_BYTES as MOST_JOURNAL;
-use day::report::report;
+use day::listing::MOST_BYTES;
+use day::report::{MOST_CONSTANTS, report};
 use kinds::kind::Kind;
 use kinds::labels::Labels;
 use std::fs::File;
 use std::io::{ErrorKind, Read, Write};
 
-// The most bytes that nine values of constants take.
-const MOST_CONSTANTS: usize = 9 * Labels::LONGEST;
+// The most bytes that so many values of constants take.
+const MOST_CONSTANT_BYTES: usize = MOST_CONSTANTS * Labels::LONGEST;
 
 fn main(rt: HostRuntime) -> anyhow::Result<()> {
     run(&rt)
 }
 
-// The first bytes of a file, and none where there is no such file.
-fn first_bytes(rt: &HostRuntime, path: &str, most: usize) -> anyhow::Result<Vec<u8>> {
+// The bytes of a file, of which no more than so many count, and none where there is no such file.
+fn bytes_of(rt: &HostRuntime, path: &str, most: u64) -> anyhow::Result<Vec<u8>> {
     let mut bytes = Vec::new(rt.alloc());
     match File::open(rt, path) {
         Ok(file) => {
-            file.take(most as u64)
+            file.take(most)
                 .read_to_end(&mut bytes)
                 .context(format_args!("cannot read {path}"))?;
         }
@@ -34,12 +33,12 @@ fn first_bytes(rt: &HostRuntime, path: &str, most: usize) -> anyhow::Result<Vec<
 
 // Prints the report of the day.
 fn run(rt: &HostRuntime) -> anyhow::Result<()> {
-    // One byte more than a text or a journal may have, so that a longer one is told from it.
-    let text = first_bytes(rt, "property.txt", MOST_TEXT + 1)?;
-    let constants = first_bytes(rt, "constants.bin", MOST_CONSTANTS)?;
+    let text = bytes_of(rt, "property.txt", u64::MAX)?;
+    let constants = bytes_of(rt, "constants.bin", MOST_CONSTANT_BYTES as u64)?;
     let mut journal = Vec::new(rt.alloc());
+    // One byte more than a journal may have, so that a longer one is told from it.
     rt.stdin()
-        .take(MOST_JOURNAL as u64 + 1)
+        .take(MOST_BYTES as u64 + 1)
         .read_to_end(&mut journal)?;
     let out = report(rt.alloc(), &text, &journal, &constants)?;
     rt.stdout().write_all(&out)?;

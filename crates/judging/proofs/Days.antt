@@ -22,7 +22,8 @@ use Rattle.judging.specs.declared.outcome.Outcome as code
 use Rattle.judging.specs.declared.stop.Stop.{Stop}
 use Rattle.judging.specs.declared.stop.Stop.TheVariants as stops
 use Rattle.judging.specs.Outcomes.{Outcome, means, refused, watch_refuses, Ends, ConstantsRead, ComesBy, Comes, begin_refused, judged, text_refused}
-use Rattle.judging.specs.Ways.{Halts, ComesOut, events, text_refusal}
+use Rattle.judging.specs.Ways.{Halts, ComesOut, events}
+use Rattle.tables.specs.Refusals.{refusal_of}
 
 -- what stops one step stops the day, for what the refusal is there
 pub stops_so : (q q' : Refusal → Type 0) (s : Stop) → Halts q s → ((f : Refusal) → q f → q' f) → Halts q' s
@@ -61,7 +62,7 @@ module _ (text journal constants : List ℕ) where
   kinds false o l n = n
 
   -- a text that is refused is so under both kinds
-  pub text_stops : (f : Refusal) → (x : Flaw) × Refuses text (At x) × (f ≡ text_refusal x) → Comes text journal constants (refused f)
+  pub text_stops : (f : Refusal) → (x : Flaw) × Refuses text (At x) × (f ≡ refusal_of x) → Comes text journal constants (refused f)
   text_stops f (x, r, e) =
       kinds (slice_index journal 1 == 2) (refused f)
       (subst (λ (z : Refusal). ComesBy label_read 2 label_class text journal constants (refused z)) (sym e) (text_refused x r))

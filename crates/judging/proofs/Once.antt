@@ -16,7 +16,7 @@ use Rattle.property.specs.declared.reader.Flaw.{Flaw}
 use Rattle.property.specs.declared.text.Failure.TheVariants.{At}
 use Rattle.paths.specs.Outcomes.{FirstUnwritten, Written, Refuses}
 use Rattle.judging.specs.Outcomes.{ConstantsRead, read, unread}
-use Rattle.judging.specs.Ways.{text_refusal}
+use Rattle.tables.specs.Refusals.{refusal_of}
 
 -- TEXTS
 reason_at : ℕ → TextReason
@@ -55,10 +55,10 @@ not_both t P f w (inr (u, (Q, a, first))) =
     let here : FirstUnwritten P (Some f.place) = subst (λ (z : Property). FirstUnwritten z (Some f.place)) e first in
     w.1 here.0.0 f.place here.0.1 here.0.2
 
-same_refusal : (f g : Flaw) → f.reason ≡ g.reason → f.place ≡ g.place → text_refusal f ≡ text_refusal g
+same_refusal : (f g : Flaw) → f.reason ≡ g.reason → f.place ≡ g.place → refusal_of f ≡ refusal_of g
 same_refusal f g r p = λ j. record { layer = Text; reason = of_text (r j); place = p j }
 
-pub same_flaw : (t : List ℕ) (f g : Flaw) → Refuses t (At f) → Refuses t (At g) → text_refusal f ≡ text_refusal g
+pub same_flaw : (t : List ℕ) (f g : Flaw) → Refuses t (At f) → Refuses t (At g) → refusal_of f ≡ refusal_of g
 same_flaw t f g (inl a) (inl b) =
     let e = before_same (text_number f.reason) f.place (text_number g.reason) g.place (a.first _ _ b.flawed) (b.first _ _ a.flawed) in
     same_refusal f g (same_reason f.reason g.reason e.0) e.1

@@ -2,8 +2,6 @@
 use Rattle.std.specs.Prelude.{◌≡◌, ℕ, List, [], map, length, Some, None, Ok, Err, Option, Result}
 use Rattle.kinds.specs.declared.kind.Kind.{Ghosts}
 use Rattle.kinds.specs.declared.phase.Phase.TheVariants.{Running, Broken}
-use Rattle.kinds.specs.declared.refusal.Layer.TheVariants.{Text}
-use Rattle.kinds.specs.declared.refusal.Reason.TheVariants.{Text as of_text}
 use Rattle.kinds.specs.declared.refusal.Refusal.{Refusal}
 use Rattle.kinds.specs.Refusals.{Ending}
 use Rattle.topl.specs.Ledger.{Ledger, initial}
@@ -13,9 +11,9 @@ use Rattle.topl.specs.Table as T
 use Rattle.topl.specs.Table.{Event}
 use Rattle.topl.specs.Theorems.{seen}
 use Rattle.sources.specs.Events.{Happening}
-use Rattle.property.specs.declared.reader.Flaw.{Flaw}
 use Rattle.property.specs.declared.text.Failure.{Failure}
 use Rattle.property.specs.declared.text.Failure.TheVariants.{At, Memory}
+use Rattle.tables.specs.Refusals.{refusal_of}
 use Rattle.watch.specs.Shows.{Shows}
 use Rattle.watch.specs.declared.watch.Watch.{Watch}
 use Rattle.judging.specs.declared.outcome.Outcome as code
@@ -37,13 +35,9 @@ Gives p q (Err s) = Halts q s
 abbrev pub ComesOut : (Outcome → Type 0) → Result code.Outcome Stop → Type 0
 ComesOut comes r = Gives (λ o. comes (means o)) (λ f. comes (refused f)) r
 
--- the refusal of a text with this flaw
-abbrev pub text_refusal : Flaw → Refusal
-text_refusal f = record { layer = Text; reason = of_text f.reason; place = f.place }
-
 -- a failure to read a text stops with the flaw's refusal, or for want of memory
 abbrev pub stop_of : Failure → Stop
-stop_of (At f) = stops.Refused (text_refusal f)
+stop_of (At f) = stops.Refused (refusal_of f)
 stop_of Memory = stops.Memory
 
 -- events as the theory sees them

@@ -10,7 +10,7 @@ use kinds::refusal::Refusal;
 use std::alloc::Global;
 
 // So many values are read at most: one more than a property has registers, so that too many are told from enough.
-const MOST_CONSTANTS: usize = 9;
+pub const MOST_CONSTANTS: usize = 9;
 
 // The value at a place, and the place behind it.
 fn value_at<K: Kind>(bytes: &[u8], place: usize) -> Result<(K::Value, usize), Refusal>

@@ -7,7 +7,8 @@ ghost use Rattle.property.specs.declared.reader.Flaw.{Flaw};
 ghost use Rattle.property.specs.declared.text.Failure.TheVariants.{At};
 ghost use Rattle.tables.specs.Meant.{meant};
 ghost use Rattle.judging.specs.Outcomes.{Comes, ComesBy, Judged, means};
-ghost use Rattle.judging.specs.Ways.{Gives, ComesOut, text_refusal};
+ghost use Rattle.judging.specs.Ways.{Gives, ComesOut};
+ghost use Rattle.tables.specs.Refusals.{refusal_of};
 
 use crate::constants::read_constants;
 use crate::outcome::Outcome;
@@ -23,7 +24,7 @@ use tables::table::Table;
 // The table that a text writes.
 fn read_table(heap: Global, text: &[u8]) -> Result<Table, Stop>
     ensures { Gives (λ t. (P : Property) × Written text.now P × (meant t ≡ table_of P))
-        (λ f. (x : Flaw) × Refuses text.now (At x) × (f ≡ text_refusal x)) result }
+        (λ f. (x : Flaw) × Refuses text.now (At x) × (f ≡ refusal_of x)) result }
 {
     let mut table = Table::empty(heap);
     tables::text::read(heap, text, &mut table)?;

@@ -3,9 +3,10 @@ ghost use Rattle.std.specs.Prelude.{◌≡◌};
 ghost use Rattle.judging.specs.Ways.{stop_of};
 ghost use Rattle.judging.specs.declared.stop.Stop.TheVariants.{Refused, Memory};
 
-use kinds::refusal::{Layer, Reason, Refusal};
+use kinds::refusal::Refusal;
 use property::text::Failure;
 use std::alloc::{AllocError, AllocFailed};
+use tables::text::refusal;
 
 // A refusal, which is then the outcome, or want of memory.
 #[derive(Clone, Copy)]
@@ -44,9 +45,7 @@ impl From<Failure> for Stop {
 
     fn from(failure: Failure) -> Stop {
         match failure {
-            Failure::At(flaw) => {
-                Stop::Refused(Layer::Text.refusal(Reason::from(flaw.reason), flaw.place))
-            }
+            Failure::At(flaw) => Stop::Refused(refusal(flaw)),
             Failure::Memory => Stop::Memory,
         }
     }

@@ -4,5 +4,6 @@ pub mod Keys
 pub mod Letters
 pub mod Meant
 pub mod Properties
+pub mod Refusals
 pub mod Views
 pub mod Written

@@ -6,7 +6,7 @@ ghost use Rattle.tables.specs.Properties.{table};
 use crate::parts::{Register, Statement};
 use property::table::{Method, Name, Register as Named};
 
-pub mod calls;
+pub mod held;
 mod made;
 pub mod names;
 mod written;

@@ -3,9 +3,12 @@ ghost use Rattle.std.specs.Prelude.{◌≡◌, MatchResult};
 ghost use Rattle.property.specs.States.{Property};
 ghost use Rattle.paths.specs.Outcomes.{Written, Refuses};
 ghost use Rattle.tables.specs.Meant.{Holds};
+ghost use Rattle.tables.specs.Refusals.{refusal_of};
 
 use crate::table::Table;
+use kinds::refusal::{Layer, Reason, Refusal};
 use property::draft::Draft;
+use property::reader::Flaw;
 use property::text::Failure;
 use std::alloc::Global;
 
@@ -17,4 +20,11 @@ pub fn read(heap: Global, text: &[u8], table: &mut Table) -> Result<(), Failure>
     paths::text::read(heap, text, &mut draft)?;
     *table = Table::of(heap, text, draft)?;
     Ok(())
+}
+
+// The refusal that a fault of a text is.
+pub fn refusal(flaw: Flaw) -> Refusal
+    ensures { result ≡ refusal_of flaw }
+{
+    Layer::Text.refusal(Reason::from(flaw.reason), flaw.place)
 }

@@ -14,7 +14,7 @@ use property::table::{Method, Name, Register as Named};
 use std::fmt;
 use topl::states::{ERROR, START};
 
-// What a register is called: a constant or a variable, by its name in the text.
+// What a register is called: a constant or a variable, by its name in the text, where the case of a variable's first letter is free.
 #[derive(Clone, Copy)]
 pub enum RegisterName<'a> {
     Constant(&'a [u8]),

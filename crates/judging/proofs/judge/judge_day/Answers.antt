@@ -5,7 +5,8 @@ use Rattle.property.specs.declared.reader.Flaw.{Flaw}
 use Rattle.property.specs.declared.text.Failure.TheVariants.{At}
 use Rattle.paths.specs.Outcomes.{Refuses}
 use Rattle.judging.specs.Outcomes.{Comes, refused}
-use Rattle.judging.specs.Ways.{ComesOut, text_refusal}
+use Rattle.judging.specs.Ways.{ComesOut}
+use Rattle.tables.specs.Refusals.{refusal_of}
 use Rattle.judging.proofs.Days.{stops_so, text_stops, numbers_so}
 use Rattle.judging.proofs.judge.judge_day.Goals as goal
 use Rattle.judging.proofs.judge.judge_day.Goals.{in_default-via-then-journal-lt2, in_default-via-else-journal-lt2+in_default-1}
@@ -15,7 +16,7 @@ returns-in_err-table c =
     let comes = Comes c.args.text.now c.args.journal.now c.args.constants.now in
     let p = err_from_is_err_and c.from_residual.result c.from_residual.ensures.1 in
     subst (ComesOut comes) (sym (p.1 ∙ ap Err p.2))
-    (stops_so (λ f. (x : Flaw) × Refuses c.args.text.now (At x) × (f ≡ text_refusal x)) (λ f. comes (refused f)) c.in_err-table.field-0.0 c.in_err-table.ensures
+    (stops_so (λ f. (x : Flaw) × Refuses c.args.text.now (At x) × (f ≡ refusal_of x)) (λ f. comes (refused f)) c.in_err-table.field-0.0 c.in_err-table.ensures
     (text_stops c.args.text.now c.args.journal.now c.args.constants.now))
 
 pub returns : goal.returns

@@ -1,4 +1,4 @@
-// Making a table, and what it tells.
+// The empty table, and what a table holds for a watch.
 ghost use Rattle.std.specs.Prelude.{◌≡◌, ◌≤◌, length};
 ghost use Rattle.topl.specs.Table.{empty_table};
 ghost use Rattle.tables.specs.Meant.{meant, names, no_names};
