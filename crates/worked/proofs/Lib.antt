@@ -1,4 +1,6 @@
 mod Days
 mod Lexemes
 mod Reading
+mod Recorded
+mod Whole
 mod Written

@@ -28,17 +28,46 @@ returned m vs = record { id = return_id m; values = vs }
 abbrev pub stale_events : {V : Type 0} → V → V → V → V → List (Happening V)
 stale_events f s f' s' = called 3 (f ∷ []) ∷ returned 3 (s ∷ []) ∷ called 5 [] ∷ called 4 (f' ∷ s' ∷ []) ∷ []
 
--- NUMBERS: 12 and 900, and the same again. An id is a byte, then the count of the values, then each value.
-abbrev pub number_bytes : List ℕ
-number_bytes =
+-- NUMBERS: 12 and 900, and 12 and what these bytes say. An id is a byte, then the count of the values, then each value.
+abbrev pub stale_bytes : List ℕ → List ℕ
+stale_bytes last =
     0x01 ∷ 0x01 ∷
     0x06 ∷ 0x01 ∷ 0x0C ∷
     0x07 ∷ 0x01 ∷ 0x84 ∷ 0x07 ∷
     0x0A ∷ 0x00 ∷
-    0x08 ∷ 0x02 ∷ 0x0C ∷ 0x84 ∷ 0x07 ∷ []
+    0x08 ∷ 0x02 ∷ 0x0C ∷ last
+
+-- 900 again
+abbrev pub number_bytes : List ℕ
+number_bytes = stale_bytes (0x84 ∷ 0x07 ∷ [])
 
 abbrev pub number_events : List (Happening (Option ℕ))
 number_events = stale_events (Some 12) (Some 900) (Some 12) (Some 900)
+
+-- 901
+abbrev pub other_bytes : List ℕ
+other_bytes = stale_bytes (0x85 ∷ 0x07 ∷ [])
+
+abbrev pub other_events : List (Happening (Option ℕ))
+other_events = stale_events (Some 12) (Some 900) (Some 12) (Some 901)
+
+-- Calls of g, p and r.
+abbrev pub gpr_bytes : List ℕ
+gpr_bytes =
+    0x01 ∷ 0x01 ∷
+    0x02 ∷ 0x00 ∷
+    0x04 ∷ 0x00 ∷
+    0x06 ∷ 0x00 ∷ []
+
+abbrev pub gpr_events : List (Happening (Option ℕ))
+gpr_events = called 1 [] ∷ called 2 [] ∷ called 3 [] ∷ []
+
+-- And of z.
+abbrev pub gprz_bytes : List ℕ
+gprz_bytes = gpr_bytes ++ 0x08 ∷ 0x00 ∷ []
+
+abbrev pub gprz_events : List (Happening (Option ℕ))
+gprz_events = gpr_events ++ called 4 [] ∷ []
 
 -- LABELS: HW-12 and day-1, and hw-12 and DAY-1.
 abbrev pub label_bytes : List ℕ
