@@ -1,0 +1,5 @@
+pub mod Ledgers
+pub mod Draws
+pub mod Begins
+pub mod Values
+pub mod Paths
