@@ -1,17 +1,15 @@
 -- How a day of some events stands between two draws.
-use Rattle.std.proofs.Common.{◌≡◌, ℕ, ◌+◌, ◌<◌, List, [], ◌∷◌, ◌++◌, map, length, Some, None, Ok, Err, Option, Result, sym, refl, ap, ◌∙◌, subst, arith, length-append}
-use Rattle.std.proofs.lemmas.List.{length_push, length-map}
+use Rattle.std.proofs.Common.{◌≡◌, ℕ, ◌+◌, ◌<◌, List, [], ◌∷◌, ◌++◌, length, None, Ok, refl, ap, ◌∙◌, subst, arith, length-append}
+use Rattle.std.proofs.lemmas.List.{length_push}
 use Rattle.kinds.specs.declared.phase.Phase.TheVariants.{Running, Broken}
-use Rattle.kinds.specs.declared.refusal.Refusal.{Refusal}
 use Rattle.kinds.specs.Refusals.{Ending}
-use Rattle.topl.specs.Ledger.{Ledger, Answer, no_event, says, refused, initial, Draws}
+use Rattle.topl.specs.Ledger.{Ledger, Answer, no_event, says, initial, Draws}
 use Rattle.topl.specs.Lists.{Class}
 use Rattle.topl.specs.Table as T
 use Rattle.topl.specs.Table.{Event}
 use Rattle.watch.specs.declared.standing.Standing.{Standing}
 use Rattle.watch.specs.declared.standing.Standing.TheVariants as standings
 use Rattle.watch.specs.Answers.{stands_for}
-use Rattle.judging.specs.Outcomes as O
 use Rattle.judging.specs.Outcomes.{Quiet, Ends, broken}
 use Rattle.judging.specs.Ways.{running_on}
 use Rattle.judging.proofs.Ledgers.{After, Broke, drawn}
@@ -30,7 +28,7 @@ module _ (P : T.Table) (ks : List Class) (es : List Event) (n : Ending) where
     pub left : (a : Answer) → (d : Drew shows' S.0 ws m a ws' m') → After P ks law es n S.0 a d.0 (record { waiting = ws'; ending = m' })
     left a d =
         let at : Draws (running_on P ks S.0) (record { waiting = ws; ending = n }) (d.0, a) (record { waiting = ws'; ending = m' }) =
-            subst (λ (z : Ending). Draws (running_on P ks S.0) (record { waiting = ws; ending = z }) (d.0, a) (record { waiting = ws'; ending = m' })) S.4 d.2 in
+        subst (λ (z : Ending). Draws (running_on P ks S.0) (record { waiting = ws; ending = z }) (d.0, a) (record { waiting = ws'; ending = m' })) S.4 d.2 in
         drawn P ks law es n S.0 ws S.2 S.3 (d.0, a) (record { waiting = ws'; ending = m' }) at
 
     -- one that runs on leaves fewer events

@@ -1,11 +1,11 @@
 -- What one call does to the ledger of a day's watch, and what that says of the day.
-use Rattle.std.proofs.Common.{◌≡◌, ℕ, ◌+◌, ◌<◌, List, [], ◌∷◌, ◌++◌, length, Some, None, Ok, Err, Option, Result, sym, refl, ap, ◌∙◌, subst, arith}
+use Rattle.std.proofs.Common.{◌≡◌, ℕ, List, [], ◌∷◌, ◌++◌, length, Some, None, Ok, Err, Option, sym, refl, ap, ◌∙◌, subst}
 use Rattle.std.proofs.lemmas.List.{append_assoc, append-nil, length_push}
-use Rattle.kinds.specs.declared.phase.Phase.TheVariants.{Blank, Running, Broken, Spilled, Full, Kept}
+use Rattle.kinds.specs.declared.phase.Phase.TheVariants.{Running, Broken, Kept}
 use Rattle.kinds.specs.declared.refusal.Reason.{Reason}
 use Rattle.kinds.specs.Refusals.{Ending}
 use Rattle.topl.specs.Deciding.{Ruling, breaks, spills, overfills, goes_on}
-use Rattle.topl.specs.Ledger.{Ledger, Source, Answer, begun, no_event, no_source, says, verdict_is, wrote, unwritten, refused, initial, event_reason, rule, refuse, unless, broken_at, Settles, Draws, Closes, passed_on}
+use Rattle.topl.specs.Ledger.{Ledger, Source, Answer, no_event, says, refused, initial, event_reason, rule, unless, Settles, Draws, Closes, passed_on}
 use Rattle.topl.specs.Lists.{Class}
 use Rattle.topl.specs.Runs.{World, so_far, closing}
 use Rattle.topl.specs.Table as T

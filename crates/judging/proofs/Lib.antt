@@ -3,3 +3,4 @@ pub mod Draws
 pub mod Begins
 pub mod Values
 pub mod Paths
+pub mod Days

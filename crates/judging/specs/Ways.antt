@@ -23,11 +23,15 @@ use Rattle.judging.specs.declared.stop.Stop.{Stop}
 use Rattle.judging.specs.declared.stop.Stop.TheVariants as stops
 use Rattle.judging.specs.Outcomes.{Outcome, means, kept, broken, refused, Quiet, Ends}
 
--- What holds of a value, or of the refusal in its place; nothing, where memory was short.
+-- What holds of a refusal that stops the judging; nothing, where memory was short.
+abbrev pub Halts : (Refusal → Type 0) → Stop → Type 0
+Halts q (stops.Refused f) = q f
+Halts q stops.Memory = Unit {0}
+
+-- What holds of a value, or of the refusal in its place.
 abbrev pub Gives : {A : Type 0} → (A → Type 0) → (Refusal → Type 0) → Result A Stop → Type 0
 Gives p q (Ok a) = p a
-Gives p q (Err (stops.Refused f)) = q f
-Gives p q (Err stops.Memory) = Unit {0}
+Gives p q (Err s) = Halts q s
 
 -- The outcome is one of these.
 abbrev pub ComesOut : (Outcome → Type 0) → Result code.Outcome Stop → Type 0

@@ -47,12 +47,7 @@ fn judge_by<K: Kind>(
 }
 
 // Judges a day, up to what stops it.
-fn judge_day(
-    heap: Global,
-    text: &[u8],
-    journal: &[u8],
-    constants: &[u8],
-) -> Result<Outcome, Stop>
+fn judge_day(heap: Global, text: &[u8], journal: &[u8], constants: &[u8]) -> Result<Outcome, Stop>
     ensures { ComesOut (Comes text.now journal.now constants.now) result }
 {
     let table = read_table(heap, text)?;

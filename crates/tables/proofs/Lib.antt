@@ -1,3 +1,4 @@
 pub mod Calling
 pub mod Fitted
 pub mod Held
+pub mod Letters

@@ -3,3 +3,4 @@ pub mod Fits
 pub mod Meant
 pub mod Properties
 pub mod Views
+pub mod Written

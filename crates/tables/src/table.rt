@@ -9,6 +9,7 @@ use property::table::{Method, Name, Register as Named};
 pub mod calls;
 mod made;
 mod names;
+mod written;
 
 // What a text writes: the property's name, its methods, its states but for `start` and `error`, and the constants and variables of its registers, by their
 // places in the text; the registers of the constants in order of first appearance, and the written statements.

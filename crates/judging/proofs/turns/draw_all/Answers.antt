@@ -1,7 +1,6 @@
-use Rattle.std.proofs.Common.{ℕ, ◌<◌, length, Some, None, Ok, Err, Option, sym, ap, ◌∙◌, subst, arith}
+use Rattle.std.proofs.Common.{◌<◌, length, Ok, Err, Option, sym, ap, ◌∙◌, subst, arith}
 use Rattle.std.proofs.lemmas.List.{length-map}
 use Rattle.std.proofs.lemmas.Result.{err_from_is_err_and}
-use Rattle.kinds.specs.Refusals.{Ending}
 use Rattle.watch.specs.Answers.{drew}
 use Rattle.watch.specs.Shows.{Shows}
 use Rattle.watch.specs.declared.standing.Standing.{Standing}

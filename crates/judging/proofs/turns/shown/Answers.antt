@@ -1,12 +1,7 @@
-use Rattle.std.proofs.Common.{◌≡◌, ℕ, ◌≤◌, length, take, vec_items, Ok, Err, sym, refl, ap, ◌∙◌, subst, arith}
+use Rattle.std.proofs.Common.{◌≡◌, ◌≤◌, length, take, vec_items, ap, ◌∙◌, arith}
 use Rattle.std.specs.Vec.{with_items}
 use Rattle.std.proofs.lemmas.List.{with_items_is}
-use Rattle.std.proofs.lemmas.Result.{err_from_is_err_and}
-use Rattle.kinds.specs.declared.phase.Phase.TheVariants.{Broken}
-use Rattle.topl.specs.Ledger.{Ledger}
-use Rattle.watch.specs.Shows.{Shows}
 use Rattle.judging.specs.Outcomes.{broken}
-use Rattle.judging.specs.Ways.{ComesOut}
 use Rattle.judging.proofs.Paths.{shown_fits, cut, never_small}
 use Rattle.judging.proofs.turns.shown.Goals as goal
 

@@ -1,0 +1,11 @@
+pub mod Agreement
+pub mod Labels
+pub mod Leading
+pub mod Lines
+pub mod Missing
+pub mod Parameters
+pub mod Pieces
+pub mod Places
+pub mod Putting
+pub mod Reading
+pub mod Unique

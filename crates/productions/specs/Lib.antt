@@ -1,0 +1,4 @@
+pub mod Meaning
+pub mod Spelling
+pub mod Syntax
+pub mod Theorems
