@@ -6,9 +6,9 @@ ghost use Rattle.tables.specs.Views.{pattern, matcher};
 ghost use Rattle.engine.specs.Views.{Shown, Seen, told};
 
 use crate::numbered::Outcome;
-use tables::parts::{Matcher, Register};
 use crate::window::Witnessed;
 use kinds::kind::Kind;
+use tables::parts::{Matcher, Register};
 use topl::pattern::Pattern;
 
 // Does a value fit a pattern?

@@ -1,9 +1,9 @@
 // What the moves from earlier positions bring to one position.
-ghost use Rattle.std.specs.Prelude.{◌≡◌, ℕ, ◌+◌, ◌-◌, ◌%◌, ◌<◌, ◌≤◌, List, [], ◌∷◌, map, ◌≢◌};
+ghost use Rattle.std.specs.Prelude.{◌≡◌, ℕ, ◌+◌, ◌-◌, ◌%◌, ◌<◌, ◌≤◌, true, List, [], ◌∷◌, map, ◌≢◌};
 ghost use Rattle.std.specs.List.{list_all};
 ghost use Rattle.topl.specs.Lists.{each, ◌∈◌};
 ghost use Rattle.topl.specs.Table.{Event as Happening, Table as TheTable, numbered, implied};
-ghost use Rattle.topl.specs.Runs.{Registers, World, Reach, quiet, calm, calms, fares, lands, skips, moves};
+ghost use Rattle.topl.specs.Runs.{Registers, World, Reach, quiet, calm, calms, fares, lands, skips, passing, moves};
 ghost use Rattle.topl.specs.Rows.{landed, incoming};
 ghost use Rattle.tables.specs.declared.parts.Matcher.TheVariants.{Any};
 ghost use Rattle.engine.specs.Modes.{mode_of};
@@ -12,19 +12,19 @@ ghost use Rattle.engine.specs.Views.{stated, Seen};
 ghost use Rattle.engine.specs.Trails.{steps_to, steps_by};
 ghost use Rattle.engine.specs.Fronts.{stands_for};
 ghost use Rattle.engine.specs.Grids.{row_of};
-ghost use Rattle.engine.specs.Fills.{ReadyFor, FilledBy, Watched, Safe, Keeps, Tracks, Brings, ComesBy, ReachedBy, shown_entry};
+ghost use Rattle.engine.specs.Fills.{Had, Known, SinceAt, ReadyFor, FilledBy, Watched, Safe, Keeps, Tracks, Brings, ComesBy, ReachedBy, shown_entry};
 
 use crate::attempt::attempt_statement;
 use crate::configuration::{Configuration, Entered};
 use crate::entry::Entry;
 use crate::front::{Breach, Decision};
 use crate::grid::Grid;
+use crate::numbered::{Numbered, Outcome};
 use crate::row::{arrive, entered_at};
 use crate::scene::{Position, Scene};
 use crate::slot::Slot;
-use crate::numbered::{Numbered, Outcome};
-use tables::parts::{Matcher, Statement};
 use kinds::kind::Kind;
+use tables::parts::{Matcher, Statement};
 use topl::states::{ERROR, START};
 
 // The number of a skip.
@@ -185,20 +185,26 @@ fn step_skip<K: Kind>(
     land::<K>(grid, Slot::of(position.number), from, &at.configuration)
 }
 
-// What the moves from a configuration at the scene's first position bring to the position.
+// What the moves from a configuration at the scene's first position bring to the position. Where an earlier call decided its statements, only its skip is
+// looked at: what they brought is there.
 fn step_configuration<K: Kind>(
     grid: &mut Grid<K::Value>,
     position: &Position<'_, K::Value>,
     at: &Entered<K::Value>,
+    is_decided: bool,
 ) -> Result<(), Entry>
     requires { at.now.entry < grid.old.book.used }
     ensures safe { Keeps position.now grid.old grid.new result }
     ensures brings { (P : TheTable) (k : Registers) (w : World) → Watched K.Kind.class position.now.scene.now P w
         → ReachedBy K.Kind.class position.now P k w grid.old at.now
+        → (is_decided ≡ true → Had (row_of K.Kind.class grid.old (position.now.number % 5)) (landed position.now.number (passing w position.now.scene.now.base (stands_for K.Kind.class at.now.configuration) (numbered P))))
         → ComesBy K.Kind.class position.now P k w grid.old grid.new
         (landed position.now.number (moves P w position.now.scene.now.base (stands_for K.Kind.class at.now.configuration))) result }
 {
     step_skip::<K>(grid, position, at)?;
+    if is_decided {
+        return Ok(());
+    }
     for (i, t) in position.scene.statements.iter().enumerate() {
         step_statement::<K>(grid, position, &written_at(i, t), at)?;
     }
@@ -214,15 +220,17 @@ fn step_row<K: Kind>(
     ensures safe { Keeps position.now grid.old grid.new result }
     ensures brings { (P : TheTable) (k : Registers) (w : World) → Watched K.Kind.class position.now.scene.now P w
         → Tracks K.Kind.class P k w position.now.scene.now.base grid.old (position.now.scene.now.base % 5)
+        → Known K.Kind.class position.now P w position.now.scene.now.base grid.old
         → ComesBy K.Kind.class position.now P k w grid.old grid.new
         (each (λ c. landed position.now.number (moves P w position.now.scene.now.base c)) (row_of K.Kind.class grid.old (position.now.scene.now.base % 5))) result }
 {
     let source = Slot::of(position.scene.base);
     let count = grid.front.count_at(source);
+    let decided = position.decided();
     // Kept an index loop: the grid that the row stands in is changed on the way, so no iterator can hold the row.
-    for i in 0..count {
+    for i in position.first_tried()..count {
         let at = entered_at::<K>(grid, source, i);
-        step_configuration::<K>(grid, position, &at)?;
+        step_configuration::<K>(grid, position, &at, i < decided)?;
     }
     Ok(())
 }
@@ -235,6 +243,7 @@ fn step_rows<K: Kind>(
     ensures safe { Keeps position.now grid.old grid.new result }
     ensures brings { (P : TheTable) (k : Registers) (w : World) → Watched K.Kind.class position.now.scene.now P w
         → ((q : ℕ) → position.now.scene.now.base ≤ q → q < position.now.number → Tracks K.Kind.class P k w q grid.old (q % 5))
+        → ((q : ℕ) → position.now.scene.now.base ≤ q → q < position.now.number → Known K.Kind.class position.now P w q grid.old)
         → ComesBy K.Kind.class position.now P k w grid.old grid.new
         (incoming P w (λ q. row_of K.Kind.class grid.old (q % 5)) position.now.number position.now.scene.now.base (position.now.number - position.now.scene.now.base)) result }
 {
@@ -258,6 +267,7 @@ pub(crate) fn fill_position<K: Kind>(
     ensures safe { Keeps position.now grid.old grid.new (shown_entry result) }
     ensures fills { (P : TheTable) (k : Registers) (L : List Happening) (w : World) → Watched K.Kind.class position.now.scene.now P w
         → ReadyFor K.Kind.class position.now P k L w grid.old
+        → SinceAt K.Kind.class position.now P k L w grid.old
         → FilledBy K.Kind.class position.now P k w grid.old grid.new result }
 {
     grid.front.spilled = false;

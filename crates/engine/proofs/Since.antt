@@ -1,0 +1,140 @@
+-- What an earlier call decided stays as it was.
+use Rattle.std.proofs.Common.{◌≡◌, ℕ, zero, suc, ◌+◌, ◌-◌, ◌%◌, ◌<◌, ◌≤◌, Bool, true, false, cond, eqb, ◌&&◌, List, [], ◌∷◌, ◌++◌, length, get_or, take, drop, sym, refl, ap, ◌∙◌, subst, ⊎_elim, true≢false, arith, eqb-true, length-append, length-drop}
+use mathlib.Core.List.Memᴰ
+use lib.Seq.{drop-append-le}
+use Rattle.std.proofs.lemmas.Bool.{cases_eq, ne_eqb, or_left}
+use Rattle.std.proofs.lemmas.List.{get_or_append_left}
+use Rattle.topl.specs.Lists.{Class, ◌∈◌, each, holds}
+use Rattle.topl.specs.Table as T
+use Rattle.topl.specs.Runs.{Configuration, Outcome, Reaches, Registers, World, alikeᶜ, fails, first_configuration, hangs, has_come, landing_of, lands, moves, onward, outcome_of, pass, passes, passing, quiet, reached, skips, so_far}
+use Rattle.topl.specs.Rows.{Stands, landed}
+use Rattle.topl.specs.Deciding.{any_error}
+use Rattle.topl.proofs.Basics.{alikeᶜ_tests, holds-∈, ∈-holds}
+use Rattle.topl.proofs.Deciding.{any_error_complete}
+use Rattle.topl.proofs.Enumerate.{enumerates}
+use Rattle.topl.proofs.Loops.{holds_append}
+use Rattle.topl.proofs.Moves.{landed_append}
+use Rattle.topl.proofs.Persist.{fares_enough, fares_more}
+use Rattle.engine.specs.declared.grid.Grid as G
+use Rattle.engine.specs.declared.scene.Position.{Position}
+use Rattle.engine.specs.Fills.{Had, Known, Onto, ReadyFor, Since, SinceAt}
+use Rattle.engine.specs.Fronts.{Grid, Others, count_at, row_at}
+use Rattle.engine.specs.Grids.{grid_of, row_of}
+use Rattle.engine.specs.Judging.{Held}
+use Rattle.engine.proofs.Fronts.{length_row_at}
+use Rattle.engine.proofs.Tables.{get_or-∈}
+
+-- more of them, and in a longer row
+pub had_append : (row xs ys : List Configuration) → Had row xs → Had row ys → Had row (xs ++ ys)
+had_append row [] ys a b = b
+had_append row (x ∷ xs) ys a b = (a.0, a.1, had_append row xs ys a.2 b)
+
+pub had_onto : (row more xs : List Configuration) → Had row xs → Had (row ++ more) xs
+had_onto row more [] a = tt
+had_onto row more (x ∷ xs) a = (a.0, holds_append alikeᶜ row more x ∙ or_left (holds alikeᶜ row x) (holds alikeᶜ more x) a.1, had_onto row more xs a.2)
+
+-- Where all events that a statement spans had come, a configuration that was reached before leads by it to one that was reached, and so stands in the row.
+module _ (P : T.Table) (k : Registers) (L : List T.Event) (w : World) (q p : ℕ) (c : Configuration) (same : (t : ℕ × T.Statement) → q + T.span t.1 ≤ length L → outcome_of w q c t ≡ outcome_of (so_far L) q c t)
+    (reach : Reaches P k (so_far L) q c) (l : p ≤ length L) (row : List Configuration) (stands : Stands P k (so_far L) p row) (safe : any_error row ≡ false) where
+  passed : (t : ℕ × T.Statement) → t ∈ T.numbered P → t.1.source ≡ c.state → (s : Registers) → outcome_of w q c t ≡ passes s → q + T.span t.1 ≡ p → Had row (record { state = t.1.target; registers = s } ∷ [])
+  passed t m e s o at =
+      let d : Configuration = record { state = t.1.target; registers = s } in
+      let r : Reaches P k (so_far L) (q + T.span t.1) d = (reach.0 ++ t.0 ∷ [], onward reach.1 (pass t s (m, e) (sym (same t (omega arith)) ∙ o))) in
+      let r' : Reaches P k (so_far L) p d = subst (λ (z : ℕ). Reaches P k (so_far L) z d) at r in
+      let h : holds alikeᶜ row d ≡ true = stands d ∙ ∈-holds alikeᶜ_tests (((enumerates P k (so_far L) p).2 d).1 r') in
+      (λ z. true≢false (sym (any_error_complete row (holds-∈ alikeᶜ_tests row d h) z) ∙ safe), h, tt)
+
+  one : (t : ℕ × T.Statement) → t ∈ T.numbered P → Had row (landed p (lands w q c t))
+  one t m = go (eqb t.1.source c.state) refl (outcome_of w q c t) refl
+    where
+      here : (b : Bool) (s : Registers) → eqb (q + T.span t.1) p ≡ b → eqb t.1.source c.state ≡ true → outcome_of w q c t ≡ passes s → Had row (cond b (record { state = t.1.target; registers = s } ∷ []) [])
+      here true s a e o = passed t m (eqb-true t.1.source c.state e) s o (eqb-true (q + T.span t.1) p a)
+      here false s a e o = tt
+
+      go : (b : Bool) → eqb t.1.source c.state ≡ b → (o : Outcome) → outcome_of w q c t ≡ o → Had row (landed p (cond b (landing_of q t o) []))
+      go false e o x = tt
+      go true e fails x = tt
+      go true e hangs x = tt
+      go true e (passes s) x = here (eqb (q + T.span t.1) p) s refl e x
+
+  some : (ts : List (ℕ × T.Statement)) → ((t : ℕ × T.Statement) → t ∈ ts → t ∈ T.numbered P) → Had row (landed p (passing w q c ts))
+  some [] f = tt
+  some (t ∷ ts) f =
+      subst (Had row) (sym (landed_append w q c p (lands w q c t) (passing w q c ts)))
+      (had_append row (landed p (lands w q c t)) (landed p (passing w q c ts)) (one t (f t (Memᴰ.head refl))) (some ts (λ u m. f u (Memᴰ.tail m))))
+
+  pub had_before : Had row (landed p (passing w q c (T.numbered P)))
+  had_before = some (T.numbered P) (λ t m. m)
+
+-- a skip leads to the next position alone
+pub skips_elsewhere : (P : T.Table) (w : World) (q : ℕ) (c : Configuration) (p : ℕ) → (q + 1 ≡ p → ⊥) → landed p (skips P w q c) ≡ []
+skips_elsewhere P w q c p n = go (has_come (drop q w.events) && quiet w q c (T.numbered P))
+  where
+    go : (b : Bool) → landed p (cond b ((0, suc q, c) ∷ []) []) ≡ []
+    go true = ap (λ z. cond z (c ∷ []) []) (ne_eqb (suc q) p (λ e. n (omega arith)))
+    go false = refl
+
+pub had_moves : (row : List Configuration) (P : T.Table) (w : World) (q : ℕ) (c : Configuration) (p : ℕ) → (q + 1 ≡ p → ⊥) → Had row (landed p (passing w q c (T.numbered P))) → Had row (landed p (moves P w q c))
+had_moves row P w q c p n h = subst (Had row) (sym (landed_append w q c p (skips P w q c) (passing w q c (T.numbered P)) ∙ ap (λ z. z ++ landed p (passing w q c (T.numbered P))) (skips_elsewhere P w q c p n))) h
+
+-- of the first of some configurations
+pub had_each : (row : List Configuration) (F : Configuration → List Configuration) (xs : List Configuration) (d : Configuration) (n : ℕ) → ((i : ℕ) → i < n → Had row (F (get_or xs i d))) → Had row (each F (take n xs))
+had_each row F xs d zero f = tt
+had_each row F [] d (suc n) f = tt
+had_each row F (x ∷ xs) d (suc n) f = had_append row (F x) (each F (take n xs)) (f 0 (omega arith)) (had_each row F xs d n (λ i l. f (suc i) (omega arith)))
+
+-- a statement whose events had come fares as it did, when one more comes and when none does
+pub same_longer : (L : List T.Event) (e : T.Event) (q : ℕ) (c : Configuration) (t : ℕ × T.Statement) → q + T.span t.1 ≤ length L → outcome_of (so_far (L ++ e ∷ [])) q c t ≡ outcome_of (so_far L) q c t
+same_longer L e q c t l =
+    let b : length (drop q L) ≡ length L - q = length-drop q L in
+    let le : q ≤ length L = omega arith in
+    rw (drop-append-le q L (e ∷ []) le) (fares_more (T.matchers t.1) c.registers (drop q L) (e ∷ []) (outcome_of (so_far L) q c t) (fares_enough (T.matchers t.1) c.registers (drop q L) (omega arith)) refl)
+
+-- so it is known at a position that is to be filled
+pub known_since : {V : Type 0} (class : V → Class) (x : Position V) (P : T.Table) (k : Registers) (L : List T.Event) (w : World) (g : G.Grid V) → ReadyFor class x P k L w g → SinceAt class x P k L w g →
+    (q : ℕ) → x.scene.now.base ≤ q → q < x.number → Known class x P w q g
+known_since class x P k L w g R S q low later l i m =
+    let all = S.all in
+    let c = get_or (row_of class g (q % 5)) i (first_configuration []) in
+    had_before P k L w q x.number c (S.same q c) (S.first q low (omega arith) i m).1 (omega arith) (row_of class g (x.number % 5)) R.before R.safe
+
+module _ {V : Type 0} (class : V → Class) (before : List ℕ) (judged : ℕ) (base last : ℕ) (P : T.Table) (k : Registers) (L : List T.Event) (w : World) where
+  -- of the first positions alone
+  pub since_to : (cap : ℕ) (g : Grid V) (p : ℕ) → p ≤ last → Since class cap before judged g base last P k L w → Since class cap before judged g base p P k L w
+  since_to cap g p l S = record { all = S.all; same = S.same; first = λ q low high. S.first q low (omega arith) }
+
+  pub since_here : (cap : ℕ) (g : G.Grid V) → g.cap ≡ cap → (p : ℕ) → p ≤ last → Since class cap before judged (grid_of g) base last P k L w → Since class g.cap before judged (grid_of g) base p P k L w
+  since_here cap g e p to S = subst (λ (z : ℕ). Since class z before judged (grid_of g) base p P k L w) (sym e) (since_to cap (grid_of g) p to S)
+
+  -- when a position has more
+  pub since_more : (cap : ℕ) (g h : Grid V) (p : ℕ) → last ≤ base + 4 → base ≤ p → p ≤ last → Others class cap (p % 5) g h → Onto class cap (p % 5) g h → Since class cap before judged g base last P k L w → Since class cap before judged h base last P k L w
+  since_more cap g h p five from to others onto S = record {
+    all = S.all;
+    same = S.same;
+    first = λ q low high i m. ⊎_elim (λ (e : q ≡ p). here q low high i m e)
+        (λ (n : q ≡ p → ⊥). subst (λ z. (i < length z) × Reaches P k (so_far L) q (get_or z i (first_configuration []))) (sym (others (q % 5) (omega arith) (λ z. n (omega arith)))) (S.first q low high i m)) (cases_eq q p);
+  }
+    where
+      here : (q : ℕ) → base ≤ q → q ≤ last → (i : ℕ) → i < get_or before (q % 5) 0 → q ≡ p → (i < length (row_at class cap h (q % 5))) × Reaches P k (so_far L) q (get_or (row_at class cap h (q % 5)) i (first_configuration []))
+      here q low high i m e =
+          let old = row_at class cap g (q % 5) in
+          let f = S.first q low high i m in
+          let o : row_at class cap h (q % 5) ≡ old ++ onto.0 = ap (λ (z : ℕ). row_at class cap h (z % 5)) e ∙ (onto.1 ∙ ap (λ (z : ℕ). row_at class cap g (z % 5) ++ onto.0) (sym e)) in
+          let n : length (old ++ onto.0) ≡ length old + length onto.0 = length-append old onto.0 in
+          subst (λ z. (i < length z) × Reaches P k (so_far L) q (get_or z i (first_configuration []))) (sym o)
+          (omega (arith, f.0), subst (Reaches P k (so_far L) q) (sym (get_or_append_left old onto.0 (first_configuration []) i f.0)) f.1)
+
+  -- when the call begins
+  pub since_first : (cap : ℕ) (g : Grid V) → before ≡ g.front.counts → judged ≡ length L → ((q : ℕ) (c : Configuration) (t : ℕ × T.Statement) → q + T.span t.1 ≤ length L → outcome_of w q c t ≡ outcome_of (so_far L) q c t) →
+      ((q : ℕ) → base ≤ q → q ≤ last → Held class cap g P k (so_far L) q) → Since class cap before judged g base last P k L w
+  since_first cap g counts all same held = record {
+    all = all;
+    same = same;
+    first = λ q low high i m.
+        let row = row_at class cap g (q % 5) in
+        let n : length row ≡ count_at g.front (q % 5) = length_row_at class cap (q % 5) g (omega arith) in
+        let l : i < count_at g.front (q % 5) = subst (λ z. i < get_or z (q % 5) 0) counts m in
+        let in' : i < length row = omega arith in
+        let d = get_or row i (first_configuration []) in
+        (in', ((enumerates P k (so_far L) q).2 d).0 (holds-∈ alikeᶜ_tests (reached P k (so_far L) q) d (sym ((held q low high).stands d) ∙ ∈-holds alikeᶜ_tests (get_or-∈ row i (first_configuration []) in'))));
+  }
