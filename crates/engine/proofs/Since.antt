@@ -1,27 +1,32 @@
 -- What an earlier call decided stays as it was.
-use Rattle.std.proofs.Common.{◌≡◌, ℕ, zero, suc, ◌+◌, ◌-◌, ◌%◌, ◌<◌, ◌≤◌, Bool, true, false, cond, eqb, ◌&&◌, List, [], ◌∷◌, ◌++◌, length, get_or, take, drop, sym, refl, ap, ◌∙◌, subst, ⊎_elim, true≢false, arith, eqb-true, length-append, length-drop}
+use Rattle.std.proofs.Common.{◌≡◌, ℕ, zero, suc, ◌+◌, ◌*◌, ◌-◌, ◌%◌, ◌<◌, ◌≤◌, Bool, true, false, cond, eqb, not, ◌&&◌, List, [], ◌∷◌, ◌++◌, length, get_or, take, drop, map, vec_items, sym, refl, ap, ap₂, ◌∙◌, subst, ⊎_elim, true≢false, arith, eq-eqb, eqb-true, length-append, length-drop}
 use mathlib.Core.List.Memᴰ
 use lib.Seq.{drop-append-le}
-use Rattle.std.proofs.lemmas.Bool.{cases_eq, ne_eqb, or_left}
+use Rattle.std.proofs.lemmas.Bool.{and_parts, cases_eq, cond-false, ne_eqb, not-true, or_cases, or_left}
 use Rattle.std.proofs.lemmas.List.{get_or_append_left}
 use Rattle.topl.specs.Lists.{Class, ◌∈◌, each, holds}
 use Rattle.topl.specs.Table as T
-use Rattle.topl.specs.Runs.{Configuration, Outcome, Reaches, Registers, World, alikeᶜ, fails, first_configuration, hangs, has_come, landing_of, lands, moves, onward, outcome_of, pass, passes, passing, quiet, reached, skips, so_far}
+use Rattle.topl.specs.Runs.{Configuration, LetsSkip, Mode, Outcome, Reaches, Registers, World, alikeᶜ, closed, fails, fares, first_configuration, hangs, has_come, landing_of, lands, moves, onward, outcome_of, pass, passes, passing, quiet, reached, settled, skips, so_far}
 use Rattle.topl.specs.Rows.{Stands, landed}
 use Rattle.topl.specs.Deciding.{any_error}
 use Rattle.topl.proofs.Basics.{alikeᶜ_tests, holds-∈, ∈-holds}
 use Rattle.topl.proofs.Deciding.{any_error_complete}
-use Rattle.topl.proofs.Enumerate.{enumerates}
+use Rattle.topl.proofs.Enumerate.{enumerates, quiet_sound}
 use Rattle.topl.proofs.Loops.{holds_append}
-use Rattle.topl.proofs.Moves.{landed_append}
-use Rattle.topl.proofs.Persist.{fares_enough, fares_more}
+use Rattle.topl.proofs.Moves.{landed_append, lands_elsewhere, length_numbered, numbered_end}
+use Rattle.topl.proofs.Persist.{fares_enough, fares_more, passes≢fails}
+use Rattle.std.specs.List.{list_all}
+use Rattle.engine.specs.declared.front.Mark.{Mark}
 use Rattle.engine.specs.declared.grid.Grid as G
+use Rattle.tables.specs.declared.parts.Statement.{Statement}
+use Rattle.tables.specs.Views.{statement}
+use Rattle.engine.proofs.Matchers.{span_is}
 use Rattle.engine.specs.declared.scene.Position.{Position}
-use Rattle.engine.specs.Fills.{Had, Known, Onto, ReadyFor, Since, SinceAt}
+use Rattle.engine.specs.Fills.{Had, is_away, Known, Onto, ReadyFor, Since, SinceAt}
 use Rattle.engine.specs.Fronts.{Grid, Others, count_at, row_at}
 use Rattle.engine.specs.Grids.{grid_of, row_of}
 use Rattle.engine.specs.Judging.{Held}
-use Rattle.engine.proofs.Fronts.{length_row_at}
+use Rattle.engine.proofs.Fronts.{length_row_at, row_read}
 use Rattle.engine.proofs.Tables.{get_or-∈}
 
 -- more of them, and in a longer row
@@ -74,6 +79,48 @@ skips_elsewhere P w q c p n = go (has_come (drop q w.events) && quiet w q c (T.n
     go true = ap (λ z. cond z (c ∷ []) []) (ne_eqb (suc q) p (λ e. n (omega arith)))
     go false = refl
 
+-- and from `start` never, since the implied statement passes once an event has come
+lets : (m : Mode) (s : Registers) (es : List T.Event) → has_come es ≡ true → LetsSkip m (fares (T.any_event ∷ []) s es) → ⊥
+lets m s [] h l = true≢false (sym h)
+lets settled s (e ∷ es) h l = passes≢fails refl l
+lets closed s (e ∷ es) h l = l s refl
+
+skips_start : (P : T.Table) (w : World) (q : ℕ) (c : Configuration) (p : ℕ) → c.state ≡ T.start → landed p (skips P w q c) ≡ []
+skips_start P w q c p n = go (has_come (drop q w.events) && quiet w q c (T.numbered P)) refl
+  where
+    among : (65, T.implied) ∈ T.numbered P
+    among = let m = length_numbered P in subst (λ z. z ∈ T.numbered P) (numbered_end P (length P.statements) refl) (get_or-∈ (T.numbered P) (length P.statements) (65, T.implied) (omega arith))
+
+    go : (b : Bool) → (has_come (drop q w.events) && quiet w q c (T.numbered P)) ≡ b → landed p (cond b ((0, suc q, c) ∷ []) []) ≡ []
+    go true e = let h = and_parts (has_come (drop q w.events)) (quiet w q c (T.numbered P)) e in absurd (lets w.mode c.registers (drop q w.events) h.0 (quiet_sound w q c h.1 among (sym n)))
+    go false e = refl
+
+pub had_start : (row : List Configuration) (P : T.Table) (w : World) (q : ℕ) (c : Configuration) (p : ℕ) → c.state ≡ T.start → Had row (landed p (passing w q c (T.numbered P))) → Had row (landed p (moves P w q c))
+had_start row P w q c p n h = subst (Had row) (sym (landed_append w q c p (skips P w q c) (passing w q c (T.numbered P)) ∙ ap (λ z. z ++ landed p (passing w q c (T.numbered P))) (skips_start P w q c p n))) h
+
+-- no statement leads from q to p
+module _ (w : World) (q : ℕ) (c : Configuration) (p span : ℕ) (far : q + 1 ≡ p → ⊥) (e : q + span ≡ p) where
+  away : (n : ℕ) (t : Statement) → is_away c.state span t ≡ true → landed p (lands w q c (n, statement t)) ≡ []
+  away n t a = ⊎_elim
+      (λ b. ap (landed p) (cond-false (eqb t.source c.state) (landing_of q (n, statement t) (outcome_of w q c (n, statement t))) [] (not-true (eqb t.source c.state) b)))
+      (λ b. let long = span_is t.source t.target (vec_items t.events) t.some in
+      let d = not-true (eqb (length (vec_items t.events)) span) b in
+      lands_elsewhere w q c (n, statement t) p (λ z. true≢false (sym (eq-eqb (length (vec_items t.events)) span (omega arith)) ∙ d)))
+      (or_cases (not (eqb t.source c.state)) (not (eqb (length (vec_items t.events)) span)) a)
+
+  all_away : (n : ℕ) (ts : List Statement) → list_all (is_away c.state span) ts ≡ true → landed p (passing w q c (T.count_from n (map statement ts))) ≡ []
+  all_away n [] a = landed_append w q c p (lands w q c (65, T.implied)) [] ∙ ap (λ z. z ++ []) (lands_elsewhere w q c (65, T.implied) p far)
+  all_away n (t ∷ ts) a =
+      let h = and_parts (is_away c.state span t) (list_all (is_away c.state span) ts) a in
+      landed_append w q c p (lands w q c (n, statement t)) (passing w q c (T.count_from (suc n) (map statement ts)))
+      ∙ ap₂ ◌++◌ (away n t h.0) (all_away (suc n) ts h.1)
+
+  pub had_away : (row : List Configuration) (P : T.Table) (ts : List Statement) → P.statements ≡ map statement ts → list_all (is_away c.state span) ts ≡ true → Had row (landed p (moves P w q c))
+  had_away row P ts s a =
+      let x : landed p (moves P w q c) ≡ [] = landed_append w q c p (skips P w q c) (passing w q c (T.numbered P))
+      ∙ ap₂ ◌++◌ (skips_elsewhere P w q c p far) (ap (λ z. landed p (passing w q c (T.count_from 1 z))) s ∙ all_away 1 ts a) in
+      subst (Had row) (sym x) tt
+
 pub had_moves : (row : List Configuration) (P : T.Table) (w : World) (q : ℕ) (c : Configuration) (p : ℕ) → (q + 1 ≡ p → ⊥) → Had row (landed p (passing w q c (T.numbered P))) → Had row (landed p (moves P w q c))
 had_moves row P w q c p n h = subst (Had row) (sym (landed_append w q c p (skips P w q c) (passing w q c (T.numbered P)) ∙ ap (λ z. z ++ landed p (passing w q c (T.numbered P))) (skips_elsewhere P w q c p n))) h
 
@@ -89,6 +136,15 @@ same_longer L e q c t l =
     let b : length (drop q L) ≡ length L - q = length-drop q L in
     let le : q ≤ length L = omega arith in
     rw (drop-append-le q L (e ∷ []) le) (fares_more (T.matchers t.1) c.registers (drop q L) (e ∷ []) (outcome_of (so_far L) q c t) (fares_enough (T.matchers t.1) c.registers (drop q L) (omega arith)) refl)
+
+-- the state of a configuration, as it is read on the front
+pub state_is : {V : Type 0} (class : V → Class) (g : G.Grid V) (slot i at : ℕ) (m : Mark) → slot < 5 → slot ≡ at → i < count_at g.front at → m ≡ record { state = get_or g.front.states (64 * slot + i) 0; entry = get_or g.front.entries (64 * slot + i) 0 } →
+    (get_or (row_of class g at) i (first_configuration [])).state ≡ m.state
+state_is class g slot i at m five e l is =
+    let held = take 8 (drop (8 * i) (drop (slot * (8 * g.cap)) (vec_items g.board))) in
+    let l' : i < count_at g.front slot = subst (λ (z : ℕ). i < count_at g.front z) (sym e) l in
+    let r = row_read class g.cap slot i (grid_of g) held (first_configuration []) five l' refl in
+    ap (λ (z : ℕ). (get_or (row_of class g z) i (first_configuration [])).state) (sym e) ∙ (sym (λ j. (r j).state) ∙ sym (λ j. (is j).state))
 
 -- so it is known at a position that is to be filled
 pub known_since : {V : Type 0} (class : V → Class) (x : Position V) (P : T.Table) (k : Registers) (L : List T.Event) (w : World) (g : G.Grid V) → ReadyFor class x P k L w g → SinceAt class x P k L w g →

@@ -1,5 +1,5 @@
 -- What moves bring to a position, and what the code then holds of it.
-use Rattle.std.specs.Prelude.{◌≡◌, ℕ, ◌+◌, ◌-◌, ◌%◌, ◌<◌, ◌≤◌, true, false, ◌≢◌, List, [], ◌∷◌, ◌++◌, map, length, drop, Ok, Err, Result, vec_items, vec_len, slice_index, slice_index_or}
+use Rattle.std.specs.Prelude.{◌≡◌, ℕ, ◌+◌, ◌-◌, ◌%◌, ◌<◌, ◌≤◌, Bool, true, false, not, ◌||◌, ◌==◌, ◌≢◌, List, [], ◌∷◌, ◌++◌, map, length, drop, Ok, Err, Result, vec_items, vec_len, slice_index, slice_index_or}
 use Rattle.topl.specs.Lists.{Class, apart, holds}
 use Rattle.topl.specs.Table as T
 use Rattle.topl.specs.Runs.{Configuration, World, so_far, Registers, Reach, Reaches, first_configuration, outcome_of, passing, reached, alikeᶜ}
@@ -14,6 +14,7 @@ use Rattle.engine.specs.declared.grid.Grid as G
 use Rattle.engine.specs.declared.front.Decision.{Decision}
 use Rattle.engine.specs.declared.front.Decision.TheVariants.{Breaks, Spills, Overfills}
 use Rattle.engine.specs.Modes.{mode_of}
+use Rattle.tables.specs.declared.parts.Statement.{Statement}
 use Rattle.tables.specs.Views.{statement}
 use Rattle.engine.specs.Views.{Seen}
 use Rattle.engine.specs.Trails.{steps_to, steps_by, room_of}
@@ -96,6 +97,10 @@ ComesBy class x P k w g h added r = Brings class (x.number % 5) P k w x.number g
 -- a configuration is reached at the first position of the scene by the steps of its entry
 abbrev pub ReachedBy : {V : Type 0} → (V → Class) → Position V → T.Table → Registers → World → G.Grid V → Entered V → Type 0
 ReachedBy class x P k w g at = Reach P k w x.scene.now.base (stands_for class at.configuration) (steps_to (vec_items g.book.entries) at.entry)
+
+-- does a statement of the code leave another state, or span more or fewer events
+abbrev pub is_away : ℕ → ℕ → Statement → Bool
+is_away state span t = not (t.source == state) || not (length (vec_items t.events) == span)
 
 -- What an earlier call decided: the statements of the configurations that stood at q before this one bring to the position only what stands there.
 abbrev pub Known : {V : Type 0} → (V → Class) → Position V → T.Table → World → ℕ → G.Grid V → Type 0

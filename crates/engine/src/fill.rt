@@ -1,18 +1,18 @@
 // What the moves from earlier positions bring to one position.
-ghost use Rattle.std.specs.Prelude.{◌≡◌, ℕ, ◌+◌, ◌-◌, ◌%◌, ◌<◌, ◌≤◌, true, List, [], ◌∷◌, map, ◌≢◌};
+ghost use Rattle.std.specs.Prelude.{◌≡◌, ℕ, ◌+◌, ◌-◌, ◌%◌, ◌<◌, ◌≤◌, true, List, [], ◌∷◌, map, ◌≢◌, slice_index, slice_index_or};
 ghost use Rattle.std.specs.List.{list_all};
 ghost use Rattle.topl.specs.Lists.{each, ◌∈◌};
 ghost use Rattle.topl.specs.Table.{Event as Happening, Table as TheTable, numbered, implied};
-ghost use Rattle.topl.specs.Runs.{Registers, World, Reach, quiet, calm, calms, fares, lands, skips, passing, moves};
+ghost use Rattle.topl.specs.Runs.{Configuration as TheConfiguration, Registers, World, first_configuration, Reach, quiet, calm, calms, fares, lands, skips, passing, moves};
 ghost use Rattle.topl.specs.Rows.{landed, incoming};
 ghost use Rattle.tables.specs.declared.parts.Matcher.TheVariants.{Any};
 ghost use Rattle.engine.specs.Modes.{mode_of};
 ghost use Rattle.tables.specs.Views.{matcher, statement};
 ghost use Rattle.engine.specs.Views.{stated, Seen};
 ghost use Rattle.engine.specs.Trails.{steps_to, steps_by};
-ghost use Rattle.engine.specs.Fronts.{stands_for};
+ghost use Rattle.engine.specs.Fronts.{stands_for, count_at, entries_at};
 ghost use Rattle.engine.specs.Grids.{row_of};
-ghost use Rattle.engine.specs.Fills.{Had, Known, SinceAt, ReadyFor, FilledBy, Watched, Safe, Keeps, Tracks, Brings, ComesBy, ReachedBy, shown_entry};
+ghost use Rattle.engine.specs.Fills.{Had, is_away, Known, SinceAt, ReadyFor, FilledBy, Watched, Safe, Keeps, Tracks, Brings, ComesBy, ReachedBy, shown_entry};
 
 use crate::attempt::attempt_statement;
 use crate::configuration::{Configuration, Entered};
@@ -211,6 +211,56 @@ fn step_configuration<K: Kind>(
     step_statement::<K>(grid, position, &implied_by(&[Matcher::Any]), at)
 }
 
+// Does each written statement leave another state, or lead from the scene's first position past the position or not so far?
+fn are_written_away<V>(position: &Position<'_, V>, state: u8) -> bool
+    ensures { result ≡ list_all (is_away state (position.now.number - position.now.scene.now.base)) position.now.scene.now.statements.now }
+{
+    let span = position.number - position.scene.base;
+    position.scene.statements.iter().all(
+        |t| -> bool
+            ensures { result ≡ is_away state span t.now }
+        { t.source != state || t.events.len() != span },
+    )
+}
+
+// Is all that a configuration of this state at the scene's first position brings to the position held there, where an earlier call may have decided its
+// statements? One in `start` never skips, since the implied statement passes at every event.
+fn brings_nothing<V>(position: &Position<'_, V>, state: u8, is_decided: bool) -> bool
+    requires { position.now.scene.now.base < position.now.number }
+    ensures { (P : TheTable) (w : World) (c : TheConfiguration) (row : List TheConfiguration)
+        → P.statements ≡ map statement position.now.scene.now.statements.now → c.state ≡ state
+        → (is_decided ≡ true → Had row (landed position.now.number (passing w position.now.scene.now.base c (numbered P))))
+        → result ≡ true → Had row (landed position.now.number (moves P w position.now.scene.now.base c)) }
+{
+    if position.scene.base + 1 == position.number {
+        return is_decided && state == START;
+    }
+    are_written_away(position, state)
+}
+
+// What the moves from configuration i at the scene's first position bring to the position; where they bring nothing new, it is not looked at.
+fn step_from<K: Kind>(
+    grid: &mut Grid<K::Value>,
+    position: &Position<'_, K::Value>,
+    i: usize,
+    is_decided: bool,
+) -> Result<(), Entry>
+    requires { (i < count_at grid.old.front (position.now.scene.now.base % 5)) × (position.now.scene.now.base < position.now.number) }
+    ensures safe { Keeps position.now grid.old grid.new result }
+    ensures brings { (P : TheTable) (k : Registers) (w : World) → Watched K.Kind.class position.now.scene.now P w
+        → let c = slice_index_or (row_of K.Kind.class grid.old (position.now.scene.now.base % 5)) i (first_configuration []) in
+        Reach P k w position.now.scene.now.base c (steps_to grid.old.book.entries.items (slice_index (entries_at grid.old.front (position.now.scene.now.base % 5)) i))
+        → (is_decided ≡ true → Had (row_of K.Kind.class grid.old (position.now.number % 5)) (landed position.now.number (passing w position.now.scene.now.base c (numbered P))))
+        → ComesBy K.Kind.class position.now P k w grid.old grid.new (landed position.now.number (moves P w position.now.scene.now.base c)) result }
+{
+    let source = Slot::of(position.scene.base);
+    if brings_nothing(position, grid.front.mark_at(source, i).state, is_decided) {
+        return Ok(());
+    }
+    let at = entered_at::<K>(grid, source, i);
+    step_configuration::<K>(grid, position, &at, is_decided)
+}
+
 // What the moves from all configurations at the scene's first position bring to the position, a later one.
 fn step_row<K: Kind>(
     grid: &mut Grid<K::Value>,
@@ -229,8 +279,7 @@ fn step_row<K: Kind>(
     let decided = position.decided();
     // Kept an index loop: the grid that the row stands in is changed on the way, so no iterator can hold the row.
     for i in position.first_tried()..count {
-        let at = entered_at::<K>(grid, source, i);
-        step_configuration::<K>(grid, position, &at, i < decided)?;
+        step_from::<K>(grid, position, i, i < decided)?;
     }
     Ok(())
 }

@@ -1,13 +1,15 @@
-use Rattle.std.proofs.Common.{ℕ, ◌+◌, ◌%◌, ◌≤◌, Ok, Err, refl, subst, arith}
+use Rattle.std.proofs.Common.{ℕ, ◌+◌, ◌%◌, ◌<◌, ◌≤◌, [], get_or, Ok, Err, refl, subst, arith}
 use Rattle.std.proofs.lemmas.Result.{err_from_is_err_and}
-use Rattle.engine.specs.Fronts.{stands_for, count_at}
+use Rattle.topl.specs.Runs.{first_configuration}
+use Rattle.engine.specs.Fronts.{count_at, entries_at}
+use Rattle.engine.specs.Grids.{row_of}
 use Rattle.engine.proofs.Fills.{safe_on}
 use Rattle.engine.proofs.Steps.{brought_from, had_row, row_first, row_more, row_end, row_error}
 use Rattle.engine.proofs.Cases.{never}
 use Rattle.engine.proofs.fill.step_row.Goals as goal
 
-pub returns-in_err-step_configuration-clause-brings : goal.returns-in_err-step_configuration-clause-brings
-returns-in_err-step_configuration-clause-brings g c P k w W T K =
+pub returns-in_err-step_from-clause-brings : goal.returns-in_err-step_from-clause-brings
+returns-in_err-step_from-clause-brings g c P k w W T K =
     let told = err_from_is_err_and c.from_residual.result c.from_residual.ensures.1 in
     let class = g.K.Kind.class in
     let s = c.args.grid.now in
@@ -15,16 +17,17 @@ returns-in_err-step_configuration-clause-brings g c P k w W T K =
     let base = position.scene.now.base in
     let p = position.number in
     let i = c.loop-i.i in
-    let x = c.in_err-step_configuration.field-0.0 in
-    let at = c.entered_at-at in
+    let x = c.in_err-step_from.field-0.0 in
+    let at = base % 5 in
+    let l = subst (λ (z : ℕ). i < count_at s.front z) c.of-source.ensures (let n = c.count_at-count.ensures.is in omega (arith, c.loop-i-test.true)) in
     let near : p ≤ base + 4 = let few = position.scene.now.short in omega (arith, position.to) in
     let B = c.loop-i.invariant.brings P k w W T K in
     rw (told.1, told.2)
-    (row_error P w base p class s k c.step_configuration.new.grid (i + 1) x
-    (row_more P w base p class s k c.loop-i.grid c.step_configuration.new.grid c.loop-i.invariant.safe c.requires near i c.of-source.result.at c.of-source.ensures
-    (stands_for class at.result.configuration) at.result.entry (Err x) (let n = c.count_at-count.ensures.is in omega (arith, c.loop-i-test.true)) at.ensures.stands at.ensures.entry T B
-    (λ R. c.in_err-step_configuration.ensures.brings P k w W R (had_row class position P k w s c.loop-i.grid c.loop-i.invariant.safe c.requires near (brought_from P w base p class s i) B K i c.of-source.result.at c.of-source.ensures
-    (stands_for class at.result.configuration) c.decided-decided.result at.ensures.stands c.decided-decided.ensures))))
+    (row_error P w base p class s k c.step_from.new.grid (i + 1) x
+    (row_more P w base p class s k c.loop-i.grid c.step_from.new.grid c.loop-i.invariant.safe c.requires near i at refl
+    (get_or (row_of class c.loop-i.grid at) i (first_configuration [])) (get_or (entries_at c.loop-i.grid.front at) i 0) (Err x) l refl refl T B
+    (λ R. c.in_err-step_from.ensures.brings P k w W R (had_row class position P k w s c.loop-i.grid c.loop-i.invariant.safe c.requires near (brought_from P w base p class s i) B K i at refl
+    (get_or (row_of class c.loop-i.grid at) i (first_configuration [])) c.decided-decided.result refl c.decided-decided.ensures))))
 
 pub loop-i-init : goal.loop-i-init
 loop-i-init g c =
@@ -43,16 +46,17 @@ loop-i-preserved g c =
     let base = position.scene.now.base in
     let p = position.number in
     let i = c.loop-i.i in
-    let at = c.entered_at-at in
+    let at = base % 5 in
+    let l = subst (λ (z : ℕ). i < count_at s.front z) c.of-source.ensures (let n = c.count_at-count.ensures.is in omega (arith, c.loop-i-test.true)) in
     let near : p ≤ base + 4 = let few = position.scene.now.short in omega (arith, position.to) in
     record {
-      safe = safe_on (p % 5) s c.loop-i.grid c.step_configuration.new.grid (Ok tt) c.loop-i.invariant.safe c.in_ok-step_configuration.ensures.safe;
+      safe = safe_on (p % 5) s c.loop-i.grid c.step_from.new.grid (Ok tt) c.loop-i.invariant.safe c.in_ok-step_from.ensures.safe;
       brings = λ P k w W T K.
           let B = c.loop-i.invariant.brings P k w W T K in
-          row_more P w base p class s k c.loop-i.grid c.step_configuration.new.grid c.loop-i.invariant.safe c.requires near i c.of-source.result.at c.of-source.ensures
-          (stands_for class at.result.configuration) at.result.entry (Ok tt) (let n = c.count_at-count.ensures.is in omega (arith, c.loop-i-test.true)) at.ensures.stands at.ensures.entry T B
-          (λ R. c.in_ok-step_configuration.ensures.brings P k w W R (had_row class position P k w s c.loop-i.grid c.loop-i.invariant.safe c.requires near (brought_from P w base p class s i) B K i c.of-source.result.at c.of-source.ensures
-          (stands_for class at.result.configuration) c.decided-decided.result at.ensures.stands c.decided-decided.ensures));
+          row_more P w base p class s k c.loop-i.grid c.step_from.new.grid c.loop-i.invariant.safe c.requires near i at refl
+          (get_or (row_of class c.loop-i.grid at) i (first_configuration [])) (get_or (entries_at c.loop-i.grid.front at) i 0) (Ok tt) l refl refl T B
+          (λ R. c.in_ok-step_from.ensures.brings P k w W R (had_row class position P k w s c.loop-i.grid c.loop-i.invariant.safe c.requires near (brought_from P w base p class s i) B K i at refl
+          (get_or (row_of class c.loop-i.grid at) i (first_configuration [])) c.decided-decided.result refl c.decided-decided.ensures));
     }
 
 pub returns-clause-brings : goal.returns-clause-brings
