@@ -1,12 +1,12 @@
 -- What an earlier call decided stays as it was.
-use Rattle.std.proofs.Common.{◌≡◌, ℕ, zero, suc, ◌+◌, ◌*◌, ◌-◌, ◌%◌, ◌<◌, ◌≤◌, Bool, true, false, cond, eqb, not, ◌&&◌, List, [], ◌∷◌, ◌++◌, length, get_or, take, drop, map, vec_items, sym, refl, ap, ap₂, ◌∙◌, subst, ⊎_elim, true≢false, arith, eq-eqb, eqb-true, length-append, length-drop}
+use Rattle.std.proofs.Common.{◌≡◌, ℕ, zero, suc, ◌+◌, ◌*◌, ◌-◌, ◌%◌, ◌<◌, ◌≤◌, Bool, true, false, cond, eqb, leb, not, ◌&&◌, List, [], ◌∷◌, ◌++◌, length, get_or, take, drop, map, vec_items, sym, refl, ap, ap₂, ◌∙◌, subst, ⊎_elim, true≢false, arith, eq-eqb, eqb-true, length-append, length-drop}
 use mathlib.Core.List.Memᴰ
 use lib.Seq.{drop-append-le}
-use Rattle.std.proofs.lemmas.Bool.{and_parts, cases_eq, cond-false, ne_eqb, not-true, or_cases, or_left}
+use Rattle.std.proofs.lemmas.Bool.{and_parts, cases_eq, cond-false, leb-true, ne_eqb, not-true, or_cases, or_left}
 use Rattle.std.proofs.lemmas.List.{get_or_append_left}
 use Rattle.topl.specs.Lists.{Class, ◌∈◌, each, holds}
 use Rattle.topl.specs.Table as T
-use Rattle.topl.specs.Runs.{Configuration, LetsSkip, Mode, Outcome, Reaches, Registers, World, alikeᶜ, closed, fails, fares, first_configuration, hangs, has_come, landing_of, lands, moves, onward, outcome_of, pass, passes, passing, quiet, reached, settled, skips, so_far}
+use Rattle.topl.specs.Runs.{Configuration, Leaves, LetsSkip, Mode, Outcome, Reaches, Registers, World, alikeᶜ, closed, fails, fares, first_configuration, hangs, has_come, landing_of, lands, moves, onward, outcome_of, pass, passes, passing, quiet, reached, settled, skip, skips, so_far}
 use Rattle.topl.specs.Rows.{Stands, landed}
 use Rattle.topl.specs.Deciding.{any_error}
 use Rattle.topl.proofs.Basics.{alikeᶜ_tests, holds-∈, ∈-holds}
@@ -22,7 +22,7 @@ use Rattle.tables.specs.declared.parts.Statement.{Statement}
 use Rattle.tables.specs.Views.{statement}
 use Rattle.engine.proofs.Matchers.{span_is}
 use Rattle.engine.specs.declared.scene.Position.{Position}
-use Rattle.engine.specs.Fills.{Had, is_away, Known, Onto, ReadyFor, Since, SinceAt}
+use Rattle.engine.specs.Fills.{Had, is_away, is_near, Told, Known, Onto, ReadyFor, Since, SinceAt}
 use Rattle.engine.specs.Fronts.{Grid, Others, count_at, row_at}
 use Rattle.engine.specs.Grids.{grid_of, row_of}
 use Rattle.engine.specs.Judging.{Held}
@@ -38,16 +38,26 @@ pub had_onto : (row more xs : List Configuration) → Had row xs → Had (row ++
 had_onto row more [] a = tt
 had_onto row more (x ∷ xs) a = (a.0, holds_append alikeᶜ row more x ∙ or_left (holds alikeᶜ row x) (holds alikeᶜ more x) a.1, had_onto row more xs a.2)
 
+-- what lets a skip go on and does not hang fails
+calm_fails : (m : Mode) (o : Outcome) → LetsSkip m o → ¬ (o ≡ hangs) → o ≡ fails
+calm_fails settled o l n = l
+calm_fails closed (passes s) l n = absurd (l s refl)
+calm_fails closed fails l n = refl
+calm_fails closed hangs l n = absurd (n refl)
+
 -- Where all events that a statement spans had come, a configuration that was reached before leads by it to one that was reached, and so stands in the row.
 module _ (P : T.Table) (k : Registers) (L : List T.Event) (w : World) (q p : ℕ) (c : Configuration) (same : (t : ℕ × T.Statement) → q + T.span t.1 ≤ length L → outcome_of w q c t ≡ outcome_of (so_far L) q c t)
     (reach : Reaches P k (so_far L) q c) (l : p ≤ length L) (row : List Configuration) (stands : Stands P k (so_far L) p row) (safe : any_error row ≡ false) where
+  stood : (d : Configuration) → Reaches P k (so_far L) p d → Had row (d ∷ [])
+  stood d r =
+      let h : holds alikeᶜ row d ≡ true = stands d ∙ ∈-holds alikeᶜ_tests (((enumerates P k (so_far L) p).2 d).1 r) in
+      (λ z. true≢false (sym (any_error_complete row (holds-∈ alikeᶜ_tests row d h) z) ∙ safe), h, tt)
+
   passed : (t : ℕ × T.Statement) → t ∈ T.numbered P → t.1.source ≡ c.state → (s : Registers) → outcome_of w q c t ≡ passes s → q + T.span t.1 ≡ p → Had row (record { state = t.1.target; registers = s } ∷ [])
   passed t m e s o at =
       let d : Configuration = record { state = t.1.target; registers = s } in
       let r : Reaches P k (so_far L) (q + T.span t.1) d = (reach.0 ++ t.0 ∷ [], onward reach.1 (pass t s (m, e) (sym (same t (omega arith)) ∙ o))) in
-      let r' : Reaches P k (so_far L) p d = subst (λ (z : ℕ). Reaches P k (so_far L) z d) at r in
-      let h : holds alikeᶜ row d ≡ true = stands d ∙ ∈-holds alikeᶜ_tests (((enumerates P k (so_far L) p).2 d).1 r') in
-      (λ z. true≢false (sym (any_error_complete row (holds-∈ alikeᶜ_tests row d h) z) ∙ safe), h, tt)
+      stood d (subst (λ (z : ℕ). Reaches P k (so_far L) z d) at r)
 
   one : (t : ℕ × T.Statement) → t ∈ T.numbered P → Had row (landed p (lands w q c t))
   one t m = go (eqb t.1.source c.state) refl (outcome_of w q c t) refl
@@ -68,8 +78,30 @@ module _ (P : T.Table) (k : Registers) (L : List T.Event) (w : World) (q p : ℕ
       subst (Had row) (sym (landed_append w q c p (lands w q c t) (passing w q c ts)))
       (had_append row (landed p (lands w q c t)) (landed p (passing w q c ts)) (one t (f t (Memᴰ.head refl))) (some ts (λ u m. f u (Memᴰ.tail m))))
 
-  pub had_before : Had row (landed p (passing w q c (T.numbered P)))
-  had_before = some (T.numbered P) (λ t m. m)
+  -- its skip, where none of its statements goes past the events
+  module _ (near : (t : ℕ × T.Statement) → t ∈ T.numbered P → t.1.source ≡ c.state → q + T.span t.1 ≤ length L) where
+    failed : quiet w q c (T.numbered P) ≡ true → (t : ℕ × T.Statement) → Leaves P c t → outcome_of (so_far L) q c t ≡ fails
+    failed h t v =
+        let n = near t v.0 v.1 in
+        let e = same t n in
+        let b : length (drop q L) ≡ length L - q = length-drop q L in
+        sym e ∙ calm_fails w.mode (outcome_of w q c t) (quiet_sound w q c h v.0 v.1) (λ z. fares_enough (T.matchers t.1) c.registers (drop q L) (omega arith) (sym e ∙ z))
+
+    skipped : Had row (landed p (skips P w q c))
+    skipped = go (has_come (drop q w.events) && quiet w q c (T.numbered P)) refl
+      where
+        here : (b : Bool) → eqb (suc q) p ≡ b → quiet w q c (T.numbered P) ≡ true → Had row (cond b (c ∷ []) [])
+        here true e h =
+            let at : suc q ≡ p = eqb-true (suc q) p e in
+            stood c (subst (λ (z : ℕ). Reaches P k (so_far L) z c) at (reach.0 ++ 0 ∷ [], onward reach.1 (skip (omega arith) (failed h))))
+        here false e h = tt
+
+        go : (b : Bool) → (has_come (drop q w.events) && quiet w q c (T.numbered P)) ≡ b → Had row (landed p (cond b ((0, suc q, c) ∷ []) []))
+        go true e = here (eqb (suc q) p) refl (and_parts (has_come (drop q w.events)) (quiet w q c (T.numbered P)) e).1
+        go false e = tt
+
+  pub told_before : (n : ℕ) → n ≡ length L → Told row P w q p n c
+  told_before n e = (omega arith, some (T.numbered P) (λ t m. m), λ near. skipped (λ t m s. let z = near t m s in omega arith))
 
 -- a skip leads to the next position alone
 pub skips_elsewhere : (P : T.Table) (w : World) (q : ℕ) (c : Configuration) (p : ℕ) → (q + 1 ≡ p → ⊥) → landed p (skips P w q c) ≡ []
@@ -125,6 +157,31 @@ pub had_moves : (row : List Configuration) (P : T.Table) (w : World) (q : ℕ) (
 had_moves row P w q c p n h = subst (Had row) (sym (landed_append w q c p (skips P w q c) (passing w q c (T.numbered P)) ∙ ap (λ z. z ++ landed p (passing w q c (T.numbered P))) (skips_elsewhere P w q c p n))) h
 
 -- of the first of some configurations
+-- where its statements span few events, all of them had come
+pub near_all : (P : T.Table) (c : Configuration) (q judged : ℕ) (ts : List Statement) → P.statements ≡ map statement ts → q < judged → list_all (is_near c.state (judged - q)) ts ≡ true →
+    (t : ℕ × T.Statement) → t ∈ T.numbered P → t.1.source ≡ c.state → q + T.span t.1 ≤ judged
+near_all P c q judged ts e l a t m s = go 1 ts a (subst (λ z. t ∈ T.count_from 1 z) e m)
+  where
+    one : (u : Statement) → is_near c.state (judged - q) u ≡ true → u.source ≡ c.state → q + T.span (statement u) ≤ judged
+    one u b s = ⊎_elim
+        (λ d. absurd (true≢false (sym (eq-eqb u.source c.state s) ∙ not-true (eqb u.source c.state) d)))
+        (λ d. let long = span_is u.source u.target (vec_items u.events) u.some in let n = leb-true (length (vec_items u.events)) (judged - q) d in omega arith)
+        (or_cases (not (eqb u.source c.state)) (leb (length (vec_items u.events)) (judged - q)) b)
+
+    go : (n : ℕ) (ts : List Statement) → list_all (is_near c.state (judged - q)) ts ≡ true → t ∈ T.count_from n (map statement ts) → q + T.span t.1 ≤ judged
+    go n [] b m = subst (λ (z : ℕ × T.Statement). q + T.span z.1 ≤ judged) (sym (Memᴰ.eq_of_singleton m)) (omega arith)
+    go n (u ∷ ts) b m =
+        let h = and_parts (is_near c.state (judged - q) u) (list_all (is_near c.state (judged - q)) ts) b in
+        ⊎_elim (λ (i : t ≡ (n, statement u)). subst (λ (z : ℕ × T.Statement). q + T.span z.1 ≤ judged) (sym i) (one u h.0 (sym (λ j. (i j).1.source) ∙ s)))
+        (λ k. go (suc n) ts h.1 k) (Memᴰ.cases_cons m)
+
+-- so all that it brings is held
+pub had_near : (row : List Configuration) (P : T.Table) (w : World) (q : ℕ) (c : Configuration) (p judged : ℕ) (ts : List Statement) → P.statements ≡ map statement ts → q < p → list_all (is_near c.state (judged - q)) ts ≡ true → Told row P w q p judged c → Had row (landed p (moves P w q c))
+had_near row P w q c p judged ts s l a U =
+    let low = U.0 in
+    subst (Had row) (sym (landed_append w q c p (skips P w q c) (passing w q c (T.numbered P))))
+    (had_append row (landed p (skips P w q c)) (landed p (passing w q c (T.numbered P))) (U.2 (near_all P c q judged ts s (omega arith) a)) U.1)
+
 pub had_each : (row : List Configuration) (F : Configuration → List Configuration) (xs : List Configuration) (d : Configuration) (n : ℕ) → ((i : ℕ) → i < n → Had row (F (get_or xs i d))) → Had row (each F (take n xs))
 had_each row F xs d zero f = tt
 had_each row F [] d (suc n) f = tt
@@ -152,7 +209,7 @@ pub known_since : {V : Type 0} (class : V → Class) (x : Position V) (P : T.Tab
 known_since class x P k L w g R S q low later l i m =
     let all = S.all in
     let c = get_or (row_of class g (q % 5)) i (first_configuration []) in
-    had_before P k L w q x.number c (S.same q c) (S.first q low (omega arith) i m).1 (omega arith) (row_of class g (x.number % 5)) R.before R.safe
+    told_before P k L w q x.number c (S.same q c) (S.first q low (omega arith) i m).1 (omega arith) (row_of class g (x.number % 5)) R.before R.safe x.scene.now.judged all
 
 module _ {V : Type 0} (class : V → Class) (before : List ℕ) (judged : ℕ) (base last : ℕ) (P : T.Table) (k : Registers) (L : List T.Event) (w : World) where
   -- of the first positions alone

@@ -18,7 +18,7 @@ use Rattle.engine.specs.Views.{Seen}
 use Rattle.engine.specs.Trails.{steps_to}
 use Rattle.engine.specs.Fronts.{row_at, count_at, entries_at}
 use Rattle.engine.specs.Grids.{grid_of, row_of}
-use Rattle.engine.specs.Fills.{Had, Known, Watched, Safe, Tracks, Brings}
+use Rattle.engine.specs.Fills.{Had, Told, Known, Watched, Safe, Tracks, Brings}
 use Rattle.engine.proofs.Windows.{seen_drop}
 use Rattle.engine.proofs.Tables.{get_or-∈}
 use Rattle.engine.proofs.Fronts.{length_row_at}
@@ -77,24 +77,29 @@ module _ (P : T.Table) (w : World) (q : ℕ) (d : Configuration) (p : ℕ) where
 pub rows_apart : (q p : ℕ) → q < p → p ≤ q + 4 → q % 5 ≡ p % 5 → ⊥
 rows_apart q p l near e = omega arith
 
+pub told_later : {V : Type 0} (class : V → Class) (slot : ℕ) (P : T.Table) (k : Registers) (w : World) (p : ℕ) (g h : G.Grid V) → h.cap ≡ g.cap → (added : List Configuration) → Brings class slot P k w p g h added (Ok tt) →
+    (q judged : ℕ) (c : Configuration) → Told (row_of class g slot) P w q p judged c → Told (row_of class h slot) P w q p judged c
+told_later class slot P k w p g h e added A q judged c U =
+    (U.0, had_later class slot P k w p g h e added A (landed p (passing w q c (T.numbered P))) U.1, λ near. had_later class slot P k w p g h e added A (landed p (skips P w q c)) (U.2 near))
+
 -- what an earlier call decided at q is known on the way
 pub known_later : {V : Type 0} (class : V → Class) (x : Position V) (P : T.Table) (k : Registers) (w : World) (q : ℕ) (g h : G.Grid V) → Safe (x.number % 5) g h (Ok tt) → q < x.number → x.number ≤ q + 4 → (added : List Configuration) →
     Brings class (x.number % 5) P k w x.number g h added (Ok tt) → Known class x P w q g → Known class x P w q h
 known_later class x P k w q g h S later near added A K l i m =
     let p = x.number in
     let same : row_of class h (q % 5) ≡ row_of class g (q % 5) = ap (λ (z : ℕ). row_at class z (grid_of h) (q % 5)) S.cap ∙ A.1.other (q % 5) (omega arith) (rows_apart q p later near) in
-    had_later class (p % 5) P k w p g h S.cap added A _
-    (subst (λ z. Had (row_of class g (p % 5)) (landed p (passing w q (get_or z i (first_configuration [])) (T.numbered P)))) (sym same) (K l i m))
+    told_later class (p % 5) P k w p g h S.cap added A q x.scene.now.judged _
+    (subst (λ z. Told (row_of class g (p % 5)) P w q p x.scene.now.judged (get_or z i (first_configuration []))) (sym same) (K l i m))
 
 -- and of the configuration that is read there
 pub had_row : {V : Type 0} (class : V → Class) (x : Position V) (P : T.Table) (k : Registers) (w : World) (g h : G.Grid V) → Safe (x.number % 5) g h (Ok tt) → x.scene.now.base < x.number → x.number ≤ x.scene.now.base + 4 → (added : List Configuration) →
     Brings class (x.number % 5) P k w x.number g h added (Ok tt) → Known class x P w x.scene.now.base g → (i at : ℕ) → at ≡ x.scene.now.base % 5 → (d : Configuration) (decided : ℕ) → d ≡ get_or (row_at class h.cap (grid_of h) at) i (first_configuration []) →
-    ((j : ℕ) → j < decided → (x.number ≤ x.scene.now.judged) × (j < get_or x.scene.now.before.now (x.scene.now.base % 5) 0)) → ltb i decided ≡ true → Had (row_of class h (x.number % 5)) (landed x.number (passing w x.scene.now.base d (T.numbered P)))
+    ((j : ℕ) → j < decided → (x.number ≤ x.scene.now.judged) × (j < get_or x.scene.now.before.now (x.scene.now.base % 5) 0)) → ltb i decided ≡ true → Told (row_of class h (x.number % 5)) P w x.scene.now.base x.number x.scene.now.judged d
 had_row class x P k w g h S later near added A K i at e d decided is few t =
     let base = x.scene.now.base in
     let f = few i (ltb-true i decided t) in
     let is' : d ≡ get_or (row_of class h (base % 5)) i (first_configuration []) = is ∙ ap (λ (z : ℕ). get_or (row_at class h.cap (grid_of h) z) i (first_configuration [])) e in
-    subst (λ z. Had (row_of class h (x.number % 5)) (landed x.number (passing w base z (T.numbered P)))) (sym is') (known_later class x P k w base g h S later near added A K f.0 i f.1)
+    subst (Told (row_of class h (x.number % 5)) P w base x.number x.scene.now.judged) (sym is') (known_later class x P k w base g h S later near added A K f.0 i f.1)
 
 -- what the moves from the configurations at q bring to p, one by one
 module _ (P : T.Table) (w : World) (q p : ℕ) {V : Type 0} (class : V → Class) (g : G.Grid V) where
@@ -159,10 +164,11 @@ watched_past class s t P w n es eb ev em W = record {
 
 -- and of what an earlier call decided
 pub known_past : {V : Type 0} (class : V → Class) (x : Position V) (t : Scene V) (P : T.Table) (w : World) (q : ℕ) (g : G.Grid V) → t.base ≡ q → t.judged ≡ x.scene.now.judged → t.before.now ≡ x.scene.now.before.now → Known class x P w q g →
-    x.number ≤ t.judged → (i : ℕ) → i < get_or t.before.now (t.base % 5) 0 → Had (row_of class g (x.number % 5)) (landed x.number (passing w t.base (get_or (row_of class g (t.base % 5)) i (first_configuration [])) (T.numbered P)))
+    x.number ≤ t.judged → (i : ℕ) → i < get_or t.before.now (t.base % 5) 0 → Told (row_of class g (x.number % 5)) P w t.base x.number t.judged (get_or (row_of class g (t.base % 5)) i (first_configuration []))
 known_past class x t P w q g eb ej ef K l i m =
     let m' : i < get_or x.scene.now.before.now (q % 5) 0 = subst (λ (z : ℕ). i < get_or x.scene.now.before.now (z % 5) 0) eb (subst (λ z. i < get_or z (t.base % 5) 0) ef m) in
-    subst (λ (z : ℕ). Had (row_of class g (x.number % 5)) (landed x.number (passing w z (get_or (row_of class g (z % 5)) i (first_configuration [])) (T.numbered P)))) (sym eb) (K (omega arith) i m')
+    subst (λ (z : ℕ). Told (row_of class g (x.number % 5)) P w z x.number t.judged (get_or (row_of class g (z % 5)) i (first_configuration []))) (sym eb)
+    (subst (λ (z : ℕ). Told (row_of class g (x.number % 5)) P w q x.number z (get_or (row_of class g (q % 5)) i (first_configuration []))) (sym ej) (K (omega arith) i m'))
 
 -- what the moves from earlier positions bring to p, position by position
 module _ (P : T.Table) (w : World) (base p : ℕ) {V : Type 0} (class : V → Class) (g : G.Grid V) where

@@ -1,8 +1,8 @@
 -- What moves bring to a position, and what the code then holds of it.
-use Rattle.std.specs.Prelude.{◌≡◌, ℕ, ◌+◌, ◌-◌, ◌%◌, ◌<◌, ◌≤◌, Bool, true, false, not, ◌||◌, ◌==◌, ◌≢◌, List, [], ◌∷◌, ◌++◌, map, length, drop, Ok, Err, Result, vec_items, vec_len, slice_index, slice_index_or}
-use Rattle.topl.specs.Lists.{Class, apart, holds}
+use Rattle.std.specs.Prelude.{◌≡◌, ℕ, ◌+◌, ◌-◌, ◌%◌, ◌<◌, ◌≤◌, Bool, true, false, not, ◌||◌, ◌==◌, nat_le, ◌≢◌, List, [], ◌∷◌, ◌++◌, map, length, drop, Ok, Err, Result, vec_items, vec_len, slice_index, slice_index_or}
+use Rattle.topl.specs.Lists.{Class, ◌∈◌, apart, holds}
 use Rattle.topl.specs.Table as T
-use Rattle.topl.specs.Runs.{Configuration, World, so_far, Registers, Reach, Reaches, first_configuration, outcome_of, passing, reached, alikeᶜ}
+use Rattle.topl.specs.Runs.{Configuration, World, so_far, Registers, Reach, Reaches, first_configuration, outcome_of, passing, skips, reached, alikeᶜ}
 use Rattle.topl.specs.Rows.{Stands, Filled, landed}
 use Rattle.topl.specs.Deciding.{any_error, count}
 use Rattle.topl.specs.Theorems.{StepsTo, ErrsBy}
@@ -102,11 +102,21 @@ ReachedBy class x P k w g at = Reach P k w x.scene.now.base (stands_for class at
 abbrev pub is_away : ℕ → ℕ → Statement → Bool
 is_away state span t = not (t.source == state) || not (length (vec_items t.events) == span)
 
--- What an earlier call decided: the statements of the configurations that stood at q before this one bring to the position only what stands there.
+-- does it leave another state, or span no more than so many events
+abbrev pub is_near : ℕ → ℕ → Statement → Bool
+is_near state most t = not (t.source == state) || nat_le (length (vec_items t.events)) most
+
+-- Of a configuration that stood at q when so many events were judged, an earlier call decided what its statements bring to p, and its skip if none of them
+-- goes past those events: it is held.
+abbrev pub Told : List Configuration → T.Table → World → ℕ → ℕ → ℕ → Configuration → Type 0
+Told row P w q p judged c =
+    (p ≤ judged) × Had row (landed p (passing w q c (T.numbered P))) × (((t : ℕ × T.Statement) → t ∈ T.numbered P → t.1.source ≡ c.state → q + T.span t.1 ≤ judged) → Had row (landed p (skips P w q c)))
+
+-- it is so of each configuration that stood at q before this call
 abbrev pub Known : {V : Type 0} → (V → Class) → Position V → T.Table → World → ℕ → G.Grid V → Type 0
 Known class x P w q g =
     x.number ≤ x.scene.now.judged → (i : ℕ) → i < slice_index x.scene.now.before.now (q % 5) →
-    Had (row_of class g (x.number % 5)) (landed x.number (passing w q (slice_index_or (row_of class g (q % 5)) i (first_configuration [])) (T.numbered P)))
+    Told (row_of class g (x.number % 5)) P w q x.number x.scene.now.judged (slice_index_or (row_of class g (q % 5)) i (first_configuration []))
 
 -- Since the events L were judged: where all that a statement spans had come, it fares as it did; and the configurations that each position had then, as many
 -- as `before` says, come first in its row, and were reached.

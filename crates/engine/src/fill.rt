@@ -3,7 +3,7 @@ ghost use Rattle.std.specs.Prelude.{◌≡◌, ℕ, ◌+◌, ◌-◌, ◌%◌, �
 ghost use Rattle.std.specs.List.{list_all};
 ghost use Rattle.topl.specs.Lists.{each, ◌∈◌};
 ghost use Rattle.topl.specs.Table.{Event as Happening, Table as TheTable, numbered, implied};
-ghost use Rattle.topl.specs.Runs.{Configuration as TheConfiguration, Registers, World, first_configuration, Reach, quiet, calm, calms, fares, lands, skips, passing, moves};
+ghost use Rattle.topl.specs.Runs.{Configuration as TheConfiguration, Registers, World, first_configuration, Reach, quiet, calm, calms, fares, lands, skips, moves};
 ghost use Rattle.topl.specs.Rows.{landed, incoming};
 ghost use Rattle.tables.specs.declared.parts.Matcher.TheVariants.{Any};
 ghost use Rattle.engine.specs.Modes.{mode_of};
@@ -12,7 +12,7 @@ ghost use Rattle.engine.specs.Views.{stated, Seen};
 ghost use Rattle.engine.specs.Trails.{steps_to, steps_by};
 ghost use Rattle.engine.specs.Fronts.{stands_for, count_at, entries_at};
 ghost use Rattle.engine.specs.Grids.{row_of};
-ghost use Rattle.engine.specs.Fills.{Had, is_away, Known, SinceAt, ReadyFor, FilledBy, Watched, Safe, Keeps, Tracks, Brings, ComesBy, ReachedBy, shown_entry};
+ghost use Rattle.engine.specs.Fills.{Had, is_away, is_near, Told, Known, SinceAt, ReadyFor, FilledBy, Watched, Safe, Keeps, Tracks, Brings, ComesBy, ReachedBy, shown_entry};
 
 use crate::attempt::attempt_statement;
 use crate::configuration::{Configuration, Entered};
@@ -94,7 +94,7 @@ fn is_calm<K: Kind>(
     ensures { (es : List Happening) → Seen K.Kind.class scene.now.events.now es
         → result ≡ calm (mode_of scene.now.mode) (fares (map matcher matchers.now) (map K.Kind.class c.now.registers) es) }
 {
-    match attempt_statement::<K>(scene.events, matchers, c.registers) {
+    match attempt_statement::<K>(scene.events, matchers, &c.registers) {
         Outcome::Passes(_) => false,
         Outcome::Fails => true,
         Outcome::Hangs => scene.mode.lets_hang(),
@@ -149,7 +149,7 @@ fn step_statement<K: Kind>(
         parent: at.entry,
         step: t.number,
     };
-    match attempt_statement::<K>(scene.events, t.events, c.registers) {
+    match attempt_statement::<K>(scene.events, t.events, &c.registers) {
         Outcome::Passes(registers) => {
             let next = Configuration::new(t.target, registers);
             land::<K>(grid, Slot::of(position.number), from, &next)
@@ -197,7 +197,7 @@ fn step_configuration<K: Kind>(
     ensures safe { Keeps position.now grid.old grid.new result }
     ensures brings { (P : TheTable) (k : Registers) (w : World) → Watched K.Kind.class position.now.scene.now P w
         → ReachedBy K.Kind.class position.now P k w grid.old at.now
-        → (is_decided ≡ true → Had (row_of K.Kind.class grid.old (position.now.number % 5)) (landed position.now.number (passing w position.now.scene.now.base (stands_for K.Kind.class at.now.configuration) (numbered P))))
+        → (is_decided ≡ true → Told (row_of K.Kind.class grid.old (position.now.number % 5)) P w position.now.scene.now.base position.now.number position.now.scene.now.judged (stands_for K.Kind.class at.now.configuration))
         → ComesBy K.Kind.class position.now P k w grid.old grid.new
         (landed position.now.number (moves P w position.now.scene.now.base (stands_for K.Kind.class at.now.configuration))) result }
 {
@@ -223,17 +223,29 @@ fn are_written_away<V>(position: &Position<'_, V>, state: u8) -> bool
     )
 }
 
+// Does each written statement leave another state, or span no more than the events from the scene's first position on that had come before this call?
+fn are_written_near<V>(position: &Position<'_, V>, state: u8) -> bool
+    ensures { result ≡ list_all (is_near state (position.now.scene.now.judged - position.now.scene.now.base)) position.now.scene.now.statements.now }
+{
+    let most = position.scene.judged.saturating_sub(position.scene.base);
+    position.scene.statements.iter().all(
+        |t| -> bool
+            ensures { result ≡ is_near state most t.now }
+        { t.source != state || t.events.len() <= most },
+    )
+}
+
 // Is all that a configuration of this state at the scene's first position brings to the position held there, where an earlier call may have decided its
-// statements? One in `start` never skips, since the implied statement passes at every event.
+// statements? It decided the skip too where it saw all their events; and one in `start` never skips, since the implied statement passes at every event.
 fn brings_nothing<V>(position: &Position<'_, V>, state: u8, is_decided: bool) -> bool
     requires { position.now.scene.now.base < position.now.number }
     ensures { (P : TheTable) (w : World) (c : TheConfiguration) (row : List TheConfiguration)
         → P.statements ≡ map statement position.now.scene.now.statements.now → c.state ≡ state
-        → (is_decided ≡ true → Had row (landed position.now.number (passing w position.now.scene.now.base c (numbered P))))
+        → (is_decided ≡ true → Told row P w position.now.scene.now.base position.now.number position.now.scene.now.judged c)
         → result ≡ true → Had row (landed position.now.number (moves P w position.now.scene.now.base c)) }
 {
     if position.scene.base + 1 == position.number {
-        return is_decided && state == START;
+        return is_decided && (state == START || are_written_near(position, state));
     }
     are_written_away(position, state)
 }
@@ -250,7 +262,7 @@ fn step_from<K: Kind>(
     ensures brings { (P : TheTable) (k : Registers) (w : World) → Watched K.Kind.class position.now.scene.now P w
         → let c = slice_index_or (row_of K.Kind.class grid.old (position.now.scene.now.base % 5)) i (first_configuration []) in
         Reach P k w position.now.scene.now.base c (steps_to grid.old.book.entries.items (slice_index (entries_at grid.old.front (position.now.scene.now.base % 5)) i))
-        → (is_decided ≡ true → Had (row_of K.Kind.class grid.old (position.now.number % 5)) (landed position.now.number (passing w position.now.scene.now.base c (numbered P))))
+        → (is_decided ≡ true → Told (row_of K.Kind.class grid.old (position.now.number % 5)) P w position.now.scene.now.base position.now.number position.now.scene.now.judged c)
         → ComesBy K.Kind.class position.now P k w grid.old grid.new (landed position.now.number (moves P w position.now.scene.now.base c)) result }
 {
     let source = Slot::of(position.scene.base);

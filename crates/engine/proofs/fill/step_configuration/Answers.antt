@@ -33,7 +33,7 @@ returns-then-is_decided-clause-brings g c P k w W r had =
     let at = c.args.at.now in
     let p = c.args.position.now.number in
     let t = c.step_skip.new.grid in
-    steps_had P w c.args.position.now.scene.now.base (stands_for class at.configuration) p class (p % 5) k c.args.grid.now t c.in_ok-step_skip.ensures.safe.cap (omega arith) (had c.if-is_decided.true)
+    steps_had P w c.args.position.now.scene.now.base (stands_for class at.configuration) p class (p % 5) k c.args.grid.now t c.in_ok-step_skip.ensures.safe.cap (omega arith) (had c.if-is_decided.true).1
     (c.in_ok-step_skip.ensures.brings P k w W r)
 
 pub loop-i-preserved : goal.loop-i-preserved

@@ -1,11 +1,10 @@
 use Rattle.std.proofs.Common.{◌≡◌, ℕ, ◌%◌, [], get_or, vec_items, sym, ap, ◌∙◌, subst, arith}
-use Rattle.topl.specs.Table.{numbered}
-use Rattle.topl.specs.Runs.{Reach, first_configuration, moves, passing}
+use Rattle.topl.specs.Runs.{Reach, first_configuration, moves}
 use Rattle.topl.specs.Rows.{landed}
 use Rattle.engine.specs.Trails.{steps_to}
 use Rattle.engine.specs.Fronts.{stands_for, entries_at}
 use Rattle.engine.specs.Grids.{row_of}
-use Rattle.engine.specs.Fills.{Had, Brings}
+use Rattle.engine.specs.Fills.{Told, Brings}
 use Rattle.engine.proofs.Fills.{brings_had}
 use Rattle.engine.proofs.Since.{state_is}
 use Rattle.engine.proofs.fill.step_from.Goals as goal
@@ -36,4 +35,4 @@ returns-clause-brings g c P k w W r had =
     let entry : at.result.entry ≡ get_or (entries_at s.front (q % 5)) i 0 = at.ensures.entry ∙ ap (λ (z : ℕ). get_or (entries_at s.front z) i 0) e in
     let r' = subst (λ z. Reach P k w q z (steps_to (vec_items s.book.entries) at.result.entry)) (sym is) (subst (λ (z : ℕ). Reach P k w q d (steps_to (vec_items s.book.entries) z)) (sym entry) r) in
     subst (λ z. Brings class (p % 5) P k w p s c.step_configuration.new.grid (landed p (moves P w q z)) c.step_configuration.result) is (c.step_configuration.ensures.brings P k w W r'
-    (λ t. subst (λ z. Had (row_of class s (p % 5)) (landed p (passing w q z (numbered P)))) (sym is) (had t)))
+    (λ t. subst (Told (row_of class s (p % 5)) P w q p c.args.position.now.scene.now.judged) (sym is) (had t)))

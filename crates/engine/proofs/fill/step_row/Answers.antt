@@ -35,7 +35,7 @@ loop-i-init g c =
     let position = c.args.position.now in
     let base = position.scene.now.base in record {
       safe = record { cap = refl; board = refl; more = omega arith; spares = λ _ _. (refl, refl); long = refl; known = λ x e. absurd (never cc) };
-      brings = λ P k w W T K. row_first P w base position.number g.K.Kind.class s k c.first_tried-i.result (λ i l. let d = c.first_tried-i.ensures.decided i l in (c.first_tried-i.ensures.far (omega arith), K d.0 i d.1));
+      brings = λ P k w W T K. row_first P w base position.number g.K.Kind.class s k c.first_tried-i.result (λ i l. let d = c.first_tried-i.ensures.decided i l in (c.first_tried-i.ensures.far (omega arith), (K d.0 i d.1).1));
     }
 
 pub loop-i-preserved : goal.loop-i-preserved
