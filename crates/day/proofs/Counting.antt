@@ -1,7 +1,6 @@
 -- The line of what is told of a property.
-use Rattle.std.proofs.Common.{◌≡◌, ap, ◌∙◌}
+use Rattle.std.proofs.Common.{◌≡◌}
 use Rattle.property.specs.States.{Property}
-use Rattle.limits.specs.Limits.{states}
 use Rattle.day.specs.Checking.{counted, property_line}
 use Rattle.day.specs.Counting.{Tells, counts_line}
 use Rattle.day.specs.declared.check.Counts.{Counts}

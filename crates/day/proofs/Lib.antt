@@ -1,2 +1,4 @@
+pub mod Checking
 pub mod Counting
 pub mod Opens
+pub mod Places

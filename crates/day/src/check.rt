@@ -3,9 +3,11 @@ ghost use Rattle.std.specs.Prelude.{◌≡◌, ℕ, List, IfOk};
 ghost use Rattle.property.specs.States.{Property};
 ghost use Rattle.tables.specs.Meant.{Holds};
 ghost use Rattle.day.specs.Lines.{Writes, refusal_line};
-ghost use Rattle.day.specs.Checking.{FirstLine, refusal_of};
-ghost use Rattle.day.specs.Counting.{Tells, counts_line};
+ghost use Rattle.day.specs.Checking.{Checked, FirstLine, refusal_of};
+ghost use Rattle.day.specs.Counting.{PrintsFirst, Tells, counts_line};
 
+pub use crate::explain::MOST_BYTES;
+use crate::explain::explain;
 use crate::page::Page;
 use kinds::refusal::{Layer, Reason};
 use property::reader::Flaw;
@@ -60,16 +62,40 @@ fn print_flaw(page: &mut Page, flaw: Flaw) -> Result<(), AllocError>
     writeln!(page, "refused {refusal}")
 }
 
+// Prints the first line that is printed of a property text, and hands out the fault of one that is refused.
+fn print_first_line(page: &mut Page, text: &[u8]) -> Result<Option<Flaw>, AllocError>
+    ensures { IfOk result (λ flaw. PrintsFirst text.now page.old page.new flaw) }
+{
+    let mut table = Table::empty(page.heap());
+    match read(page.heap(), text, &mut table) {
+        Ok(()) => {
+            Counts::of(&table).print(page)?;
+            Ok(None)
+        }
+        Err(Failure::At(flaw)) => {
+            print_flaw(page, flaw)?;
+            Ok(Some(flaw))
+        }
+        Err(Failure::Memory) => Err(AllocError),
+    }
+}
+
 // The first line that is printed of a property text.
 pub fn first_line(heap: Global, text: &[u8]) -> Result<Vec<u8>, AllocError>
     ensures { IfOk result (λ out. FirstLine text.now out.items) }
 {
     let mut page = Page::new(heap);
-    let mut table = Table::empty(heap);
-    match read(heap, text, &mut table) {
-        Ok(()) => Counts::of(&table).print(&mut page)?,
-        Err(Failure::At(flaw)) => print_flaw(&mut page, flaw)?,
-        Err(Failure::Memory) => return Err(AllocError),
+    print_first_line(&mut page, text)?;
+    Ok(page.into_bytes())
+}
+
+// All that is printed of a property text: the first line, and what explains a refusal.
+pub fn check(heap: Global, text: &[u8]) -> Result<Vec<u8>, AllocError>
+    ensures { IfOk result (λ out. Checked text.now out.items) }
+{
+    let mut page = Page::new(heap);
+    if let Some(flaw) = print_first_line(&mut page, text)? {
+        explain(&mut page, text, flaw)?;
     }
     Ok(page.into_bytes())
 }

@@ -2,6 +2,7 @@
 #![tactic(auto)]
 
 pub mod check;
+mod explain;
 pub mod listing;
 pub mod methods;
 mod page;

@@ -2,15 +2,13 @@
 #![tactic(auto)]
 
 use anyhow::Context;
-use day::listing::MOST_BYTES;
+use day::check::MOST_BYTES as MOST_TEXT;
+use day::listing::MOST_BYTES as MOST_JOURNAL;
 use day::report::report;
 use kinds::kind::Kind;
 use kinds::labels::Labels;
 use std::fs::File;
 use std::io::{ErrorKind, Read, Write};
-
-// The most bytes that a property text has.
-const MOST_TEXT: usize = 8_192;
 
 // The most bytes that nine values of constants take.
 const MOST_CONSTANTS: usize = 9 * Labels::LONGEST;
@@ -41,7 +39,7 @@ fn run(rt: &HostRuntime) -> anyhow::Result<()> {
     let constants = first_bytes(rt, "constants.bin", MOST_CONSTANTS)?;
     let mut journal = Vec::new(rt.alloc());
     rt.stdin()
-        .take(MOST_BYTES as u64 + 1)
+        .take(MOST_JOURNAL as u64 + 1)
         .read_to_end(&mut journal)?;
     let out = report(rt.alloc(), &text, &journal, &constants)?;
     rt.stdout().write_all(&out)?;

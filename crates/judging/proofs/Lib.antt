@@ -4,3 +4,6 @@ pub mod Begins
 pub mod Values
 pub mod Paths
 pub mod Days
+pub mod Fates
+pub mod Once
+pub mod Only

@@ -95,7 +95,8 @@ module _ (P : T.Table) (k : Registers) where
     source_refused : (f : Refusal) → n ≡ Err f → Quiet [] es → Ends es n (refused f)
 
 module _ {V : Type 0} (reads : List ℕ → Result (V × ℕ) Fault) where
-  -- Values stand one after the other from the first byte on, to the end or the ninth; or the first that cannot be read is among them.
+  -- Values stand one after the other from the first byte on, to the end or the ninth; or the first that cannot be read is refused, where fewer than nine stand
+  -- before it.
   pub data ConstantsRead (bytes : List ℕ) : Result (List V) Refusal → Type 0 where
     read : (vs : List V) (q : ℕ) → Values reads bytes 0 vs q → length vs ≤ 9 → (length bytes ≤ q) ⊎ (length vs ≡ 9) → ConstantsRead bytes (Ok vs)
     unread : (vs : List V) (q : ℕ) (f : Refusal) → Values reads bytes 0 vs q → length vs < 9 → q < length bytes → at reads bytes q ≡ Err f → ConstantsRead bytes (Err f)
@@ -112,7 +113,7 @@ module _ {V : Type 0} (reads : List ℕ → Result (V × ℕ) Fault) where
         ConstantsRead constants (Ok vs) → length vs ≡ length (table_of P).constants → Recorded reads journal 2 hs n →
         Ends (table_of P) (initial (table_of P) (map class vs)) (map (λ h. seen class h.id h.values) hs) n o → ComesBy number class text journal constants o
 
--- A day is one of labels where the second byte of its journal says so, and one of numbers else.
+-- A day is one of labels where the second byte of its journal says so, and one of numbers else, also where it has no second byte.
 abbrev pub Comes : List ℕ → List ℕ → List ℕ → Outcome → Type 0
 Comes text journal constants o =
     cond (slice_index journal 1 == 2) (ComesBy label_read 2 label_class text journal constants o) (ComesBy number_value 1 number_class text journal constants o)

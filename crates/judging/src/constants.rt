@@ -1,5 +1,5 @@
 // The values of a property's constants, as they are handed over.
-ghost use Rattle.std.specs.Prelude.{◌≡◌, ◌<◌, ◌≤◌, length, IfOk, Ok, Err};
+ghost use Rattle.std.specs.Prelude.{◌≡◌, ◌<◌, ◌≤◌, length, Decides, IfOk, Ok, Err};
 ghost use Rattle.sources.specs.Format.{at};
 ghost use Rattle.judging.specs.Outcomes.{ConstantsRead};
 ghost use Rattle.judging.specs.Ways.{Gives};
@@ -22,13 +22,20 @@ fn value_at<K: Kind>(bytes: &[u8], place: usize) -> Result<(K::Value, usize), Re
     Ok((value, place + count))
 }
 
+// Whether a value is to be read at a place, behind so many.
+fn has_another(bytes: &[u8], place: usize, count: usize) -> bool
+    ensures { Decides result ((place < length bytes.now) × (count < 9)) }
+{
+    place < bytes.len() && count < MOST_CONSTANTS
+}
+
 // The values that stand one after the other, to the end of the bytes or the ninth.
 pub(crate) fn read_constants<K: Kind>(heap: Global, bytes: &[u8]) -> Result<Vec<K::Value>, Stop>
     ensures { Gives (λ vs. ConstantsRead K.Kind.reads bytes.now (Ok vs.items)) (λ f. ConstantsRead K.Kind.reads bytes.now (Err f)) result }
 {
     let mut values = Vec::new(heap);
     let mut place = 0;
-    while place < bytes.len() && values.len() < MOST_CONSTANTS {
+    while has_another(bytes, place, values.len()) {
         let (value, next) = value_at::<K>(bytes, place)?;
         values.push(value)?;
         place = next;

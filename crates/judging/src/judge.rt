@@ -6,7 +6,7 @@ ghost use Rattle.property.specs.States.{Property};
 ghost use Rattle.property.specs.declared.reader.Flaw.{Flaw};
 ghost use Rattle.property.specs.declared.text.Failure.TheVariants.{At};
 ghost use Rattle.tables.specs.Meant.{meant};
-ghost use Rattle.judging.specs.Outcomes.{Comes, ComesBy, means};
+ghost use Rattle.judging.specs.Outcomes.{Comes, ComesBy, Judged, means};
 ghost use Rattle.judging.specs.Ways.{Gives, ComesOut, text_refusal};
 
 use crate::constants::read_constants;
@@ -58,13 +58,14 @@ fn judge_day(heap: Global, text: &[u8], journal: &[u8], constants: &[u8]) -> Res
 }
 
 // Judges a day by the property of a text, a journal whose head chooses the kind, and the values of the constants.
+#[tactic(auto, using(crate::proofs::Only::judged_so))]
 pub fn judge(
     heap: Global,
     text: &[u8],
     journal: &[u8],
     constants: &[u8],
 ) -> Result<Outcome, AllocError>
-    ensures { IfOk result (λ o. Comes text.now journal.now constants.now (means o)) }
+    ensures { IfOk result (λ o. Judged text.now journal.now constants.now (means o)) }
 {
     match judge_day(heap, text, journal, constants) {
         Ok(outcome) => Ok(outcome),

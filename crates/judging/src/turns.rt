@@ -1,13 +1,13 @@
 // The watch's way through a day: its making, its draws, its close, and what it then shows.
-ghost use Rattle.std.specs.Prelude.{◌≡◌, [], List, None, Ok, length, map};
+ghost use Rattle.std.specs.Prelude.{◌≡◌, [], List, None, Ok, length, map, IfOk};
 ghost use Rattle.kinds.specs.declared.phase.Phase.TheVariants.{Broken};
-ghost use Rattle.topl.specs.Ledger.{Ledger, initial};
+ghost use Rattle.topl.specs.Ledger.{Ledger, fresh, initial};
 ghost use Rattle.topl.specs.Lists.{Class};
 ghost use Rattle.topl.specs.Table.{Table as Property, Event};
 ghost use Rattle.kinds.specs.Refusals.{Ending};
 ghost use Rattle.tables.specs.Meant.{meant};
 ghost use Rattle.watch.specs.Shows.{Shows};
-ghost use Rattle.judging.specs.Outcomes.{Ends, Quiet, broken, refused, watch_refuses};
+ghost use Rattle.judging.specs.Outcomes.{Ends, broken, refused, watch_refuses};
 ghost use Rattle.judging.specs.Ways.{Gives, ComesOut, Drawn, HasBegun, Stood, events, running_on};
 ghost use Rattle.kinds.specs.declared.refusal.Reason.TheVariants.{Watch as of_watch};
 ghost use Rattle.kinds.specs.declared.watch_reason.WatchReason.TheVariants.{OtherConstants};
@@ -19,7 +19,7 @@ use engine::entry::Entry;
 use kinds::kind::Kind;
 use kinds::refusal::Refusal;
 use sources::source::Source;
-use std::alloc::Global;
+use std::alloc::{AllocError, Global};
 use tables::table::Table;
 use watch::standing::Standing;
 use watch::watch::Watch;
@@ -30,7 +30,16 @@ const CAP: usize = 64;
 // So many values has the board for them.
 const BOARD_LEN: usize = 40 * CAP + 64;
 
-// A watch over a board and a book of a day's size that has begun with the values of the constants.
+// A blank watch over a board and a book of a day's size.
+fn make<'a, K: Kind>(heap: Global) -> Result<Watch<'a, K>, AllocError>
+    ensures { IfOk result (λ w. Shows w (fresh 2624 16384)) }
+{
+    let board = vec![in heap; K::nothing(); BOARD_LEN]?;
+    let book = vec![in heap; Entry { parent: 0, step: 0 }; MOST_ENTRIES]?;
+    Ok(Watch::<K>::new(board, book))
+}
+
+// A watch that has begun a day with the values of the constants.
 pub(crate) fn begin<'a, K: Kind>(
     heap: Global,
     table: &'a Table,
@@ -40,9 +49,7 @@ pub(crate) fn begin<'a, K: Kind>(
         (λ w. (length constants.now ≡ length (meant table.now).constants) × Shows w (running_on (meant table.now) ks []))
         (λ f. ¬ (length constants.now ≡ length (meant table.now).constants) × (refused f ≡ watch_refuses (of_watch OtherConstants) 0)) result }
 {
-    let board = vec![in heap; K::nothing(); BOARD_LEN]?;
-    let book = vec![in heap; Entry { parent: 0, step: 0 }; MOST_ENTRIES]?;
-    let mut watch = Watch::<K>::new(board, book);
+    let mut watch = make::<K>(heap)?;
     watch.begin(table, constants, CAP)?;
     Ok(watch)
 }

@@ -36,7 +36,7 @@ PatternFits gs (patterns.Differs r) = r < length gs
 abbrev pub SlotFits : List Key → Slot → Type 0
 SlotFits gs s = PatternFits gs s.pattern
 
--- A call of a declared method, with a pattern for each parameter; it writes no register twice.
+-- A call of a declared method, with a pattern for each parameter, the first of five slots; it writes no register twice.
 pub record CallFits (ms : List Declared) (gs : List Key) (c : Call) : Type 0 where
   pub declared : (m : Declared) × (m ∈ ms) × (m.number ≡ c.number) × (m.arity ≡ c.arity)
   pub five : length c.slots ≡ 5
@@ -54,7 +54,7 @@ EventFits ms gs events.Any = Unit {0}
 EventFits ms gs (events.Calls c) = CallFits ms gs c
 EventFits ms gs (events.Returns a) = AnswerFits ms gs a
 
--- A statement spans one to four events, between two of n states, and does not leave `error`.
+-- A statement spans one to four events, the first of the four that it holds, between two of n states, and does not leave `error`.
 pub record StatementFits (ms : List Declared) (n : ℕ) (gs : List Key) (s : Statement) : Type 0 where
   pub some : 1 ≤ s.span
   pub few : s.span ≤ 4
@@ -72,7 +72,8 @@ MethodFits m = (m.number ≤ 65535) × (m.arity ≤ 5)
 abbrev pub states : Property → ℕ
 states P = 2 + length P.others
 
--- At most 32 methods, 16 states, 8 registers and 64 statements; no method has the name or the number of another; the others are all different too.
+-- At most 32 methods, 16 states, 8 registers and 64 statements; no method has the name or the number of another, and no state or register stands twice. What
+-- names look like is no part of it.
 pub record Within (P : Property) : Type 0 where
   pub few_methods : length P.methods ≤ 32
   pub methods_fit : All MethodFits P.methods

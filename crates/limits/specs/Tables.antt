@@ -35,7 +35,7 @@ matcher (events.Returns a) = T.returned (placed a.slot) a.number
 abbrev pub spanned : Statement → List Event
 spanned s = take s.span s.events
 
--- From one state to another over events that meet these.
+-- From one state to another over events that meet these, of which there is at least one.
 abbrev pub over : ℕ → ℕ → List T.Matcher → T.Statement
 over source target ms = record { source = source; target = target; head = slice_index_or ms 0 T.any_event; rest = drop 1 ms }
 

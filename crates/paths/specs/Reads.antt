@@ -39,7 +39,7 @@ abbrev pub Among : ℕ → List ℕ → Type 0
 Among n [] = ⊥
 Among n (m ∷ ns) = (n ≡ m) ⊎ Among n ns
 
--- At place n the register x is read in a statement, before any write of it there, and some path reaches the statement with no write of x.
+-- At byte n of the text the register x is read in a statement, that at `place` in the list, before any write of it there, and some path reaches the statement with no write of x.
 pub record OpenRead (ss : List Statement) (x n : ℕ) : Type 0 where
   pub place : ℕ
   pub within : place < length ss

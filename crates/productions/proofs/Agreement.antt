@@ -1,5 +1,6 @@
 -- The productions and the table of spots agree.
 use Rattle.std.proofs.Common.{ℕ, ◌≤◌, List, length, sym, inr, subst, arith}
+use Rattle.limits.proofs.Accepted.{accepted_within}
 use Rattle.property.specs.Grammar.{any_text}
 use Rattle.property.specs.States.{Property, nothing_read}
 use Rattle.productions.specs.Meaning.{Means}
@@ -23,9 +24,9 @@ nested_productions t = (tree_of t, λ x. let y = taken x.0 t x.1 in (y.value, y.
 
 -- The property that is taken from a tree is the only one, so an accepted one.
 pub trees_mean : TreesMean
-trees_mean t P A h w s =
+trees_mean t P A h s =
     let y = taken A t s in
     let e = h.only y.value y.takes in
-    let few = w.few_states in
+    let few = (accepted_within t P h).few_states in
     let k : length y.value.others ≤ 14 = subst (λ (Q : Property). length Q.others ≤ 14) (sym e) (omega arith) in
     subst (Means A) e (y.means (λ n i f. h.sound n i (inr (inr f))) k)

@@ -108,7 +108,7 @@ more_labels [] = nothing
 more_labels (l ∷ ls) = sign ";" ⨾ label l ⨾ more_labels ls
 
 -- LINES
--- `property` stands after spaces alone and has exactly one space right behind it; further spaces may follow, as before any word.
+-- `property` stands after spaces alone, with a space right behind it; further spaces may follow, as before any word.
 abbrev pub first_line : List ℕ → Spelling
 first_line w = spaces ⨾ bytes (codes "property ") ⨾ word w
 

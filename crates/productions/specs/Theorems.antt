@@ -1,7 +1,6 @@
 -- What the productions and the table of spots have to do with each other.
 use Rattle.std.specs.Prelude.{◌≡◌, ℕ, ◌↔◌, List}
 use Rattle.forms.specs.Forms.{Accepted}
-use Rattle.limits.specs.Limits.{Within}
 use Rattle.property.specs.Grammar.{any_text, property_text}
 use Rattle.property.specs.States.{Property}
 use Rattle.productions.specs.Meaning.{Means}
@@ -18,4 +17,4 @@ OneTree = (t : List ℕ) (A B : Tree) → Spells A t → Spells B t → A ≡ B
 
 -- What an accepted text writes is what its tree means.
 abbrev pub TreesMean : Type 0
-TreesMean = (t : List ℕ) (P : Property) (A : Tree) → Accepted property_text t P → Within P → Spells A t → Means A P
+TreesMean = (t : List ℕ) (P : Property) (A : Tree) → Accepted property_text t P → Spells A t → Means A P

@@ -7,6 +7,7 @@ use Rattle.tables.specs.Called.{method_name}
 use Rattle.tables.specs.Meant.{names}
 use Rattle.tables.specs.declared.table.Table.{Table}
 
+-- Names are read of what is found, or before the search.
 named : (t : List ℕ) (n : ℕ) (ms : List Method)
     → option_map (λ m. spelled t m.name) (find (λ m. m.number == n) ms) ≡ option_map (λ d. d.name) (find (λ d. d.number == n) (map (declared t) ms))
 named t n [] = refl

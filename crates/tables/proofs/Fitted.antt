@@ -13,15 +13,18 @@ use Rattle.limits.proofs.Lowering.{call_number, call_arity, answer_number}
 use Rattle.tables.specs.Fits as fits
 
 module _ (ms : List Declared) (gs : List Key) (kept : All MethodFits ms) (eight : length gs ≤ 8) where
+  -- A register of the property is one of the eight.
   pattern_fits : (p : Pattern ℕ) → limits.PatternFits gs p → fits.PatternFits p
   pattern_fits patterns.Any h = tt
   pattern_fits (patterns.Write r) h = let i : r < length gs = h.0 in omega arith
   pattern_fits (patterns.Same r) h = omega arith
   pattern_fits (patterns.Differs r) h = omega arith
 
+  -- The same of a slot.
   slot_fits : (s : Slot) → limits.SlotFits gs s → fits.SlotFits s
   slot_fits s h = pattern_fits s.pattern h
 
+  -- A call or a return of a declared method fits.
   event_fits : (e : Event) → limits.EventFits ms gs e → fits.EventFits e
   event_fits events.Any h = tt
   event_fits (events.Calls c) h = record {
@@ -32,6 +35,7 @@ module _ (ms : List Declared) (gs : List Key) (kept : All MethodFits ms) (eight 
   }
   event_fits (events.Returns a) h = record { number = answer_number kept a h; fits = slot_fits a.slot h.fits }
 
+-- All its statements fit.
 pub statements_fit : (P : Property) → Within P → All fits.StatementFits P.statements
 statements_fit P w k d l =
     let s = w.statements_fit k d l in

@@ -17,24 +17,29 @@ PatternFits (patterns.Write r) = r < 8
 PatternFits (patterns.Same r) = r < 8
 PatternFits (patterns.Differs r) = r < 8
 
+-- So does the pattern of a slot.
 abbrev pub SlotFits : Slot → Type 0
 SlotFits s = PatternFits s.pattern
 
+-- A call of a method with a number of two bytes and at most five parameters.
 pub record CallFits (c : Call) : Type 0 where
   pub number : c.number ≤ 65535
   pub arity : c.arity ≤ 5
   pub five : length c.slots ≡ 5
   pub fit : All SlotFits (parameters c)
 
+-- A return of a method with such a number.
 pub record AnswerFits (a : Answer) : Type 0 where
   pub number : a.number ≤ 65535
   pub fits : SlotFits a.slot
 
+-- What one event has to meet.
 abbrev pub EventFits : Event → Type 0
 EventFits events.Any = Unit {0}
 EventFits (events.Calls c) = CallFits c
 EventFits (events.Returns a) = AnswerFits a
 
+-- A statement between two of sixteen states over one to four events.
 pub record StatementFits (s : Statement) : Type 0 where
   pub some : 1 ≤ s.span
   pub few : s.span ≤ 4

@@ -1,10 +1,11 @@
 -- A table as its text would be written.
-use Rattle.std.specs.Prelude.{ℕ, ◌-◌, ◌/◌, cond, List, [], ◌∷◌, ◌++◌, map, drop, codes, Some, None, Option, flat_map, decimal}
-use Rattle.std.specs.Option.{unwrap_or}
-use Rattle.forms.specs.Bytes.{small}
-use Rattle.property.specs.States.{Declared, Key}
+use Rattle.std.specs.Prelude.{ℕ, ◌/◌, cond, List, [], ◌∷◌, ◌++◌, map, drop, codes, flat_map, decimal}
+use Rattle.std.specs.Option.{option_map_or, unwrap_or}
+use Rattle.property.specs.States.{Declared}
 use Rattle.topl.specs.Table as T
 use Rattle.tables.specs.Called.{method_name, state_name, register_key}
+use Rattle.tables.specs.Keys.{key_words}
+use Rattle.tables.specs.Letters.{raised}
 use Rattle.tables.specs.Meant.{Names}
 
 -- Words with the same before each of them.
@@ -20,31 +21,27 @@ joined sep (w ∷ ws) = w ++ each_after sep ws
 abbrev pub line : List ℕ → List ℕ
 line w = w ++ 10 ∷ []
 
--- A name with a capital first letter.
-abbrev pub raised : List ℕ → List ℕ
-raised [] = []
-raised (b ∷ w) = cond (small b) (b - 32) b ∷ w
-
--- A register where it is read: a constant in its brackets, or a variable.
-abbrev pub read_key : Option Key → List ℕ
-read_key None = []
-read_key (Some k) = cond k.constant (codes "<" ++ (k.name ++ codes ">")) k.name
-
--- A variable where it is written; a constant never is.
-abbrev pub written_key : Option Key → List ℕ
-written_key None = []
-written_key (Some k) = cond k.constant [] (raised k.name)
-
 module _ (N : Names) where
+  -- A register where it is read.
+  abbrev pub read : ℕ → List ℕ
+  read r = option_map_or key_words (register_key N r) []
+
+  -- A register where it is written: a constant never is.
+  abbrev pub written_to : ℕ → List ℕ
+  written_to r = option_map_or (λ k. cond k.constant [] (raised k.name)) (register_key N r) []
+
+  -- A pattern: any value, one that is written, only that of a register, or any other.
   abbrev pub pattern : T.Pattern → List ℕ
   pattern T.Any = codes "*"
-  pattern (T.Write r) = written_key (register_key N r)
-  pattern (T.Same r) = read_key (register_key N r)
-  pattern (T.Differs r) = codes "!" ++ read_key (register_key N r)
+  pattern (T.Write r) = written_to r
+  pattern (T.Same r) = read r
+  pattern (T.Differs r) = codes "!" ++ read r
 
+  -- Patterns with commas between them.
   abbrev pub patterns : List T.Pattern → List ℕ
   patterns ps = joined (codes ", ") (map pattern ps)
 
+  -- The method with a number, nothing where there is none.
   abbrev pub method : ℕ → List ℕ
   method m = unwrap_or (method_name N m) []
 
@@ -52,22 +49,28 @@ module _ (N : Names) where
   abbrev pub call : ℕ → List T.Pattern → List ℕ
   call m ps = codes "call " ++ (method m ++ (codes "(" ++ (patterns (drop 1 ps) ++ codes ")")))
 
+  -- A return: its one pattern comes first.
   abbrev pub answer : ℕ → List T.Pattern → List ℕ
   answer m ps = codes "ret " ++ (patterns ps ++ (codes " := " ++ method m))
 
+  -- What one event has to meet.
   abbrev pub label : T.Matcher → List ℕ
   label T.any_event = codes "*"
   label (T.event_of id ps) = cond (T.calls id) (call (id / 2) ps) (answer (id / 2) ps)
 
+  -- A state by its number, nothing where there is none.
   abbrev pub state : ℕ → List ℕ
   state q = unwrap_or (state_name N q) []
 
+  -- Labels with semicolons between them.
   abbrev pub labels : List T.Matcher → List ℕ
   labels ms = joined (codes "; ") (map label ms)
 
+  -- The line of a statement.
   abbrev pub statement_line : T.Statement → List ℕ
   statement_line s = line (state s.source ++ (codes " -> " ++ (state s.target ++ (codes ": " ++ labels (T.matchers s)))))
 
+-- The line that declares a method.
 abbrev pub method_line : Declared → List ℕ
 method_line d = line (codes "method " ++ (d.name ++ (codes " " ++ (decimal d.number ++ (codes " " ++ decimal d.arity)))))
 

@@ -5,3 +5,4 @@ mod lower;
 pub mod parts;
 pub mod table;
 pub mod text;
+mod words;

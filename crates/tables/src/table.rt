@@ -1,5 +1,5 @@
 // The table of a property.
-ghost use Rattle.std.specs.Prelude.{◌≡◌, true};
+ghost use Rattle.std.specs.Prelude.{◌≡◌, ◌+◌, ◌≤◌, true, length};
 ghost use Rattle.topl.specs.Table.{is_lawful};
 ghost use Rattle.tables.specs.Properties.{table};
 
@@ -8,7 +8,7 @@ use property::table::{Method, Name, Register as Named};
 
 pub mod calls;
 mod made;
-mod names;
+pub mod names;
 mod written;
 
 // What a text writes: the property's name, its methods, its states but for `start` and `error`, and the constants and variables of its registers, by their
@@ -22,5 +22,7 @@ pub struct Table {
     registers: Vec<Named>,
     constants: Vec<Register>,
     statements: Vec<Statement>,
+    ghost few_states: { 2 + length others.items ≤ 16 },
+    ghost few_registers: { length registers.items ≤ 8 },
     ghost lawful: { is_lawful (table methods.items constants.items statements.items) ≡ true },
 }

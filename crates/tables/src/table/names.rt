@@ -1,13 +1,37 @@
 // What people ask of a table: names and counts.
-ghost use Rattle.std.specs.Prelude.{◌≡◌, ◌+◌, length};
+ghost use Rattle.std.specs.Prelude.{◌≡◌, ◌+◌, Some, length};
 ghost use Rattle.std.specs.Option.{option_copied, option_map};
 ghost use Rattle.property.specs.Views.{spelled as spelling};
 ghost use Rattle.tables.specs.Called as called;
+ghost use Rattle.tables.specs.Keys.{key, key_words};
 ghost use Rattle.tables.specs.Meant.{names};
+ghost use Rattle.tables.specs.Views.{number};
 
+use crate::parts::Register;
 use crate::table::Table;
-use property::table::{Method, Name};
+use crate::words::{Small, Word};
+use property::table::{Method, Name, Register as Named};
+use std::fmt;
 use topl::states::{ERROR, START};
+
+// What a register is called: a constant or a variable, by its name in the text.
+#[derive(Clone, Copy)]
+pub enum RegisterName<'a> {
+    Constant(&'a [u8]),
+    Variable(&'a [u8]),
+}
+
+// A constant prints in its brackets, a variable with a small first letter.
+impl fmt::Display for RegisterName<'_> {
+    ghost output = { λ r. Some (key_words (key r)) };
+
+    fn fmt<W: fmt::Write>(&self, f: &mut fmt::Formatter<W>) -> fmt::Result {
+        match self {
+            RegisterName::Constant(name) => write!(f, "<{}>", Word(name)),
+            RegisterName::Variable(name) => write!(f, "{}", Small(name)),
+        }
+    }
+}
 
 impl Table {
     // The bytes of a name, none where its places lie outside of the text.
@@ -50,6 +74,16 @@ impl Table {
                 let name = self.others.get(usize::from(state) - 2)?;
                 Some(self.spelled(*name))
             }
+        }
+    }
+
+    // What a register is called.
+    pub fn register_name(&self, register: Register) -> Option<RegisterName<'_>>
+        ensures { option_map key result ≡ called.register_key (names self.now) (number register) }
+    {
+        match self.registers.get(register.place())? {
+            Named::Constant(name) => Some(RegisterName::Constant(self.spelled(*name))),
+            Named::Variable(name) => Some(RegisterName::Variable(self.spelled(*name))),
         }
     }
 

@@ -1,83 +1,31 @@
 // A table as its text would be written.
 ghost use Rattle.std.specs.Prelude.{◌≡◌, ◌/◌, Some, codes, map, flat_map};
 ghost use Rattle.std.specs.Fmt.{DisplaysOnOk};
-ghost use Rattle.std.specs.Option.{option_map};
-ghost use Rattle.property.specs.Views.{declared, key_of};
-ghost use Rattle.property.specs.Words.{lowered};
-ghost use Rattle.tables.specs.Called.{register_key};
+ghost use Rattle.property.specs.Views.{declared};
 ghost use Rattle.tables.specs.Meant.{meant, names};
 ghost use Rattle.tables.specs.Views as views;
+ghost use Rattle.tables.specs.Views.{number};
 ghost use Rattle.tables.specs.Written as by;
 
 use crate::parts::{Guard, Matcher, Register, Statement};
 use crate::table::Table;
-use property::table::{Method, Register as Named};
-use std::{fmt, str};
+use crate::table::names::RegisterName;
+use crate::words::{Capital, Word};
+use property::table::Method;
+use std::fmt;
 use topl::pattern::Pattern;
 
-// A word as it stands.
-#[derive(Clone, Copy)]
-struct Word<'a>(&'a [u8]);
-
-impl fmt::Display for Word<'_> {
-    ghost output = { λ w. Some w.0.now };
-
-    fn fmt<W: fmt::Write>(&self, f: &mut fmt::Formatter<W>) -> fmt::Result {
-        f.write_str(str::from_utf8(self.0).map_err(|_| fmt::Error)?)
-    }
-}
-
-// A word with a small first letter.
-#[derive(Clone, Copy)]
-struct Small<'a>(&'a [u8]);
-
-impl fmt::Display for Small<'_> {
-    ghost output = { λ w. Some (lowered w.0.now) };
-
-    fn fmt<W: fmt::Write>(&self, f: &mut fmt::Formatter<W>) -> fmt::Result {
-        let Some((first, rest)) = self.0.split_first() else {
-            return Ok(());
-        };
-        let letter = [first.to_ascii_lowercase()];
-        write!(f, "{}{}", Word(&letter), Word(rest))
-    }
-}
-
-// A word with a capital first letter.
-#[derive(Clone, Copy)]
-struct Capital<'a>(&'a [u8]);
-
-impl fmt::Display for Capital<'_> {
-    ghost output = { λ w. Some (by.raised w.0.now) };
-
-    fn fmt<W: fmt::Write>(&self, f: &mut fmt::Formatter<W>) -> fmt::Result {
-        let Some((first, rest)) = self.0.split_first() else {
-            return Ok(());
-        };
-        let letter = [first.to_ascii_uppercase()];
-        write!(f, "{}{}", Word(&letter), Word(rest))
-    }
-}
-
 impl Table {
-    // What a register holds.
-    fn held(&self, register: Register) -> Option<Named>
-        ensures { option_map (key_of self.now.text.items) result ≡ register_key (names self.now) register.at }
-    {
-        self.registers.get(register.place()).copied()
-    }
-
-    // Writes a register where it is read: a constant in its brackets, or a variable.
+    // Writes a register where it is read.
     fn write_read<W: fmt::Write>(
         &self,
         register: Register,
         f: &mut fmt::Formatter<W>,
     ) -> fmt::Result
-        ensures { DisplaysOnOk W.write_str_gives f.old result (Some (by.read_key (register_key (names self.now) register.at))) f.new }
+        ensures { DisplaysOnOk W.write_str_gives f.old result (Some (by.read (names self.now) (number register))) f.new }
     {
-        match self.held(register) {
-            Some(Named::Constant(name)) => write!(f, "<{}>", Word(self.spelled(name))),
-            Some(Named::Variable(name)) => write!(f, "{}", Small(self.spelled(name))),
+        match self.register_name(register) {
+            Some(name) => write!(f, "{name}"),
             None => Ok(()),
         }
     }
@@ -89,11 +37,11 @@ impl Table {
         register: Register,
         f: &mut fmt::Formatter<W>,
     ) -> fmt::Result
-        ensures { DisplaysOnOk W.write_str_gives f.old result (Some (by.written_key (register_key (names self.now) register.at))) f.new }
+        ensures { DisplaysOnOk W.write_str_gives f.old result (Some (by.written_to (names self.now) (number register))) f.new }
     {
-        match self.held(register) {
-            Some(Named::Variable(name)) => write!(f, "{}", Capital(self.spelled(name))),
-            Some(Named::Constant(_)) | None => Ok(()),
+        match self.register_name(register) {
+            Some(RegisterName::Variable(name)) => write!(f, "{}", Capital(name)),
+            Some(RegisterName::Constant(_)) | None => Ok(()),
         }
     }
 
@@ -273,6 +221,7 @@ impl Table {
     }
 }
 
+// The first line, a line for each method and one for each statement, each event under a label of its own.
 impl fmt::Display for Table {
     ghost output = { λ t. Some (by.written (names t) (meant t)) };
 

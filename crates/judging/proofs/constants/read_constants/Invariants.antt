@@ -3,8 +3,8 @@ use Rattle.sources.specs.Records.{Values}
 use Rattle.judging.proofs.constants.read_constants.Given as goal
 
 -- the values so far stand one after the other up to the place
-abbrev pub invariant-loop-place : goal.invariant-loop-place
-invariant-loop-place g l = Values g.K.Kind.reads l.bytes 0 (vec_items l.values) l.place × (l.place ≤ length l.bytes) × (length (vec_items l.values) ≤ 9)
+abbrev pub invariant-loop-values : goal.invariant-loop-values
+invariant-loop-values g l = Values g.K.Kind.reads l.bytes 0 (vec_items l.values) l.place × (l.place ≤ length l.bytes) × (length (vec_items l.values) ≤ 9)
 
-abbrev pub decreases-loop-place : goal.decreases-loop-place
-decreases-loop-place g l = length l.bytes - l.place
+abbrev pub decreases-loop-values : goal.decreases-loop-values
+decreases-loop-values g l = length l.bytes - l.place

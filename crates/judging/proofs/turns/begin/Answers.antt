@@ -1,4 +1,4 @@
-use Rattle.std.proofs.Common.{◌≡◌, ℕ, [], length, map, Err, sym, ap, ◌∙◌, subst}
+use Rattle.std.proofs.Common.{◌≡◌, [], length, map, Err, sym, ap, ◌∙◌, subst}
 use Rattle.std.proofs.lemmas.List.{length-map}
 use Rattle.std.proofs.lemmas.Result.{err_from_is_err_and}
 use Rattle.topl.specs.Ledger.{begun, refused, fresh}
@@ -16,9 +16,7 @@ pub returns : goal.returns
 returns g c =
     let P = meant c.args.table.now in
     let ks = map g.K.Kind.class c.args.constants.now in
-    let made : Shows c.new-watch.result (fresh 2624 16384) =
-    subst (λ (z : ℕ × ℕ). Shows c.new-watch.result (fresh z.0 z.1)) (λ j. (c.in_ok-board.ensures.len j, c.in_ok-book.ensures.len j)) c.new-watch.ensures in
-    let d = c.in_ok-begin.ensures (fresh 2624 16384) made in
+    let d = c.in_ok-begin.ensures (fresh 2624 16384) c.in_ok-watch.ensures in
     let s = starts P ks (d.0, begun) d.2 in
     (sym (length-map c.args.constants.now g.K.Kind.class) ∙ s.0, subst (Shows c.begin.new.self) s.1 d.1)
 
@@ -26,9 +24,7 @@ pub returns-in_err-begin : goal.returns-in_err-begin
 returns-in_err-begin g c =
     let P = meant c.args.table.now in
     let ks = map g.K.Kind.class c.args.constants.now in
-    let made : Shows c.new-watch.result (fresh 2624 16384) =
-    subst (λ (z : ℕ × ℕ). Shows c.new-watch.result (fresh z.0 z.1)) (λ j. (c.in_ok-board.ensures.len j, c.in_ok-book.ensures.len j)) c.new-watch.ensures in
-    let d = c.in_err-begin.ensures (fresh 2624 16384) made in
+    let d = c.in_err-begin.ensures (fresh 2624 16384) c.in_ok-watch.ensures in
     let s = starts P ks (d.0, refused c.in_err-begin.field-0.0) d.2 in
     let p = err_from_is_err_and c.from_residual-in_err-begin.result c.from_residual-in_err-begin.ensures.1 in
     let other : ¬ (length c.args.constants.now ≡ length P.constants) = λ e. s.0 (length-map c.args.constants.now g.K.Kind.class ∙ e) in

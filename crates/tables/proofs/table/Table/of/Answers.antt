@@ -1,5 +1,6 @@
-use Rattle.std.proofs.Common.{List, All, ap, sym, ◌∙◌, subst}
-use Rattle.property.specs.Views.{sofar}
+use Rattle.std.proofs.Common.{◌+◌, ◌≤◌, List, All, ap, sym, ◌∙◌, subst}
+use Rattle.std.proofs.lemmas.List.{length-map}
+use Rattle.property.specs.Views.{key_of, sofar, spelled}
 use Rattle.property.specs.declared.table.Statement.{Statement}
 use Rattle.topl.specs.Table.{is_lawful}
 use Rattle.tables.specs.Fits.{StatementFits}
@@ -17,7 +18,11 @@ pub invariant_of-result : goal.invariant_of-result
 invariant_of-result c =
     let P = sofar c.args.text.now c.args.draft in
     let e = held c.args.text.now c.args.draft _ _ _ _ c.deref.ensures.value c.deref-2.ensures.value c.in_ok-constants.ensures c.in_ok-statements.ensures in
-    record { lawful = ap is_lawful e ∙ within_tested P c.requires }
+    record {
+      few_states = subst (λ n. 2 + n ≤ 16) (length-map _ (spelled c.args.text.now)) c.requires.few_states;
+      few_registers = subst (λ n. n ≤ 8) (length-map _ (key_of c.args.text.now)) c.requires.few_registers;
+      lawful = ap is_lawful e ∙ within_tested P c.requires;
+    }
 
 pub returns : goal.returns
 returns c = (

@@ -1,0 +1,4 @@
+pub mod Days
+pub mod Faults
+pub mod Fields
+pub mod Read
