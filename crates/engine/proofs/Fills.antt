@@ -14,8 +14,8 @@ use Rattle.engine.specs.declared.grid.Grid as G
 use Rattle.engine.specs.declared.row.Crowded.{Crowded}
 use Rattle.engine.specs.Trails.{steps_to, steps_by, room_of}
 use Rattle.engine.specs.Fronts.{row_at, count_at, entries_at, Grid, grid, Comes, Arrives}
-use Rattle.engine.specs.Grids.{grid_of}
-use Rattle.engine.specs.Fills.{Tracked, Tracks, Fits, Grows, Brought, Brings, Safe}
+use Rattle.engine.specs.Grids.{grid_of, row_of}
+use Rattle.engine.specs.Fills.{Onto, Had, Tracked, Tracks, Fits, Grows, Brought, Brings, Safe}
 use Rattle.engine.proofs.Fronts.{Room, room_for, length_row_at, length_entries}
 
 -- a grid whose row has spilled
@@ -37,9 +37,13 @@ module _ {V : Type 0} (class : V → Class) (cap : ℕ) (P : T.Table) (k : Regis
       (subst (Reach P k w p (get_or (row_at class cap g slot) i (first_configuration []))) (sym s) (t i l'))
 
   module _ (slot : ℕ) (five : slot < 5) (g : Grid V) (R : Room cap g) where
+    as_it_was : Onto class cap slot g g
+    as_it_was = ([], sym (append-nil (row_at class cap g slot)))
+
     pub grows_none : Grows class cap slot P k w p g g []
     grows_none = record {
       other = λ j l n. refl;
+      onto = as_it_was;
       fill = λ truth f. subst (λ z. Filled cap (row_at class cap g slot) z g.front.spilled) (sym (append-nil truth)) f;
       kept = λ n l. refl;
       more = omega arith;
@@ -78,6 +82,7 @@ module _ {V : Type 0} (class : V → Class) (cap : ℕ) (P : T.Table) (k : Regis
       pub grows_added : Grows class cap slot P k w p g h (c ∷ [])
       grows_added = record {
         other = C.other;
+        onto = (c ∷ [], C.row_here);
         fill = λ truth f. subst (λ z. Filled cap z (truth ++ c ∷ []) h.front.spilled) (sym C.row_here)
             (subst (Filled cap (row_at class cap g slot ++ c ∷ []) (truth ++ c ∷ [])) (sym C.spilled) (filled_added cap (row_at class cap g slot) truth g.front.spilled f c C.unheld));
         kept = C.enters.old;
@@ -91,6 +96,7 @@ module _ {V : Type 0} (class : V → Class) (cap : ℕ) (P : T.Table) (k : Regis
     pub grows_held : (c : Configuration) → holds alikeᶜ (row_at class cap g slot) c ≡ true → Grows class cap slot P k w p g g (c ∷ [])
     grows_held c e = record {
       other = λ j l n. refl;
+      onto = as_it_was;
       fill = λ truth f. filled_held cap (row_at class cap g slot) truth g.front.spilled f c e;
       kept = λ n l. refl;
       more = omega arith;
@@ -104,6 +110,7 @@ module _ {V : Type 0} (class : V → Class) (cap : ℕ) (P : T.Table) (k : Regis
         Grows class cap slot P k w p g (spill g l m few) (c ∷ [])
     grows_spilled c e n l m few = record {
       other = λ j l n. refl;
+      onto = as_it_was;
       fill = λ truth f. filled_spilled cap (row_at class cap g slot) truth g.front.spilled f c e n;
       kept = λ n l. refl;
       more = omega arith;
@@ -138,6 +145,7 @@ module _ {V : Type 0} (class : V → Class) (cap : ℕ) (P : T.Table) (k : Regis
     grows_on : Grows class cap slot P k w p g h xs → Grows class cap slot P k w p h j ys → Grows class cap slot P k w p g j (xs ++ ys)
     grows_on A B = record {
       other = λ i l n. B.other i l n ∙ A.other i l n;
+      onto = (A.onto.0 ++ B.onto.0, B.onto.1 ∙ (ap (λ z. z ++ B.onto.0) A.onto.1 ∙ append_assoc (row_at class cap g slot) A.onto.0 B.onto.0));
       fill = λ truth f. subst (λ z. Filled cap (row_at class cap j slot) z j.front.spilled) (append_assoc truth xs ys) (B.fill (truth ++ xs) (A.fill truth f));
       kept = λ n l. let m = A.more in B.kept n (omega arith) ∙ A.kept n l;
       more = let m = A.more in let n = B.more in omega arith;
@@ -157,6 +165,12 @@ module _ {V : Type 0} (class : V → Class) (cap : ℕ) (P : T.Table) (k : Regis
     brought_on (Err x) a b = (error_append xs ys ∙ or_right (any_error xs) (any_error ys) b.0, b.1)
     brought_on (Ok _) a b = (error_append xs ys ∙ or_from (any_error xs) (any_error ys) a.0 b.0, grows_on a.1 b.1)
 
+  -- what is held already adds nothing
+  pub brought_had : (slot : ℕ) → slot < 5 → (g : Grid V) → Room cap g → (added : List Configuration) → Had (row_at class cap g slot) added → Brought class cap slot P k w p g g added (Ok tt)
+  brought_had slot five g R [] h = brought_none slot five g R [] refl
+  brought_had slot five g R (c ∷ cs) h =
+      brought_on slot g g g (c ∷ []) cs (Ok tt) (ap (λ z. z || false) (ne_eqb c.state T.error h.0), grows_held slot five g R c h.1) (brought_had slot five g R cs h.2)
+
 -- whatever the events are
 pub safe_on : {V : Type 0} (slot : ℕ) (g h j : G.Grid V) (r : Result (Unit {0}) Entry) → Safe slot g h (Ok tt) → Safe slot h j r → Safe slot g j r
 safe_on slot g h j r A B = record {
@@ -175,6 +189,9 @@ room_by cap h e = subst (λ (z : ℕ). Room z (grid_of h)) e (room_for h)
 module _ {V : Type 0} (class : V → Class) (slot : ℕ) (P : T.Table) (k : Registers) (w : World) (p : ℕ) where
   pub brings_none : slot < 5 → (g : G.Grid V) (added : List Configuration) → added ≡ [] → Brings class slot P k w p g g added (Ok tt)
   brings_none five g added e = brought_none class g.cap P k w p slot five (grid_of g) (room_for g) added e
+
+  pub brings_had : slot < 5 → (g : G.Grid V) (added : List Configuration) → Had (row_of class g slot) added → Brings class slot P k w p g g added (Ok tt)
+  brings_had five g added h = brought_had class g.cap P k w p slot five (grid_of g) (room_for g) added h
 
   pub brings_on : (g h j : G.Grid V) → h.cap ≡ g.cap → (xs ys : List Configuration) (r : Result (Unit {0}) Entry) → Brings class slot P k w p g h xs (Ok tt) → Brings class slot P k w p h j ys r → Brings class slot P k w p g j (xs ++ ys) r
   brings_on g h j e xs ys r A B =

@@ -68,6 +68,7 @@ module _ {V : Type 0} (class : V → Class) (cap : ℕ) (g h : Grid V) (base p :
           stands = filled_stands P k L w row base p R.steps R.from R.earlier (row p) R.before cap new f;
           once = f.distinct;
           other = G.other;
+          onto = G.onto;
           kept = G.kept;
           long = G.long;
           counted = G.counted;
@@ -108,6 +109,7 @@ judged_stops class cap g h p P k L w d e s = record {
   rules = e;
   shown = s;
   held = λ z. absurd (decided_not d z);
+  onto = λ z. absurd (decided_not d z);
   other = λ z. absurd (decided_not d z);
   kept = λ z. absurd (decided_not d z);
   needs = λ z. absurd (decided_not d z);
@@ -155,6 +157,7 @@ module _ {V : Type 0} (class : V → Class) (cap : ℕ) (g h : Grid V) (p : ℕ)
           rules = rules_goes P k cap (room_of g.book) (so_far L) w p S.no_error needed.2 (omega arith);
           shown = tt;
           held = λ e. record { stands = S.stands; once = S.once };
+          onto = λ e. S.onto;
           other = λ e. S.other;
           kept = λ e. S.kept;
           needs = λ e. omega arith;
@@ -196,16 +199,16 @@ module _ {V : Type 0} (class : V → Class) (cap : ℕ) (base last : ℕ) (P : T
     along_balance = balance p high ∙ ap (λ (z : ℕ). z + D.count P k w p) (sym A.entered)
 
     module _ (j : Grid V) (r : Result (Unit {0}) Decision) (X : Spares (p % 5) h.front j.front) (c : ℕ) (same : c ≡ cap) (judged : Ready class c h base p P k L w → Balance h.used p P k L w → Judged class c h j p P k L w r) where
-      J : Judged class cap h j p P k L w r
-      J = subst (λ (z : ℕ). Judged class z h j p P k L w r) same (judged (subst (λ (z : ℕ). Ready class z h base p P k L w) (sym same) along_ready) along_balance)
+      pub along_judged : Judged class cap h j p P k L w r
+      along_judged = subst (λ (z : ℕ). Judged class z h j p P k L w r) same (judged (subst (λ (z : ℕ). Ready class z h base p P k L w) (sym same) along_ready) along_balance)
 
       rules' : ruled r ≡ D.ruling_at P k cap (room_of g.book) (so_far L) w p
-      rules' = J.rules ∙ ap (λ (z : ℕ). D.ruling_at P k cap z (so_far L) w p) (let l = long in omega arith)
+      rules' = along_judged.rules ∙ ap (λ (z : ℕ). D.ruling_at P k cap z (so_far L) w p) (let l = long in omega arith)
 
       pub along_decides : (d : Decision) → r ≡ Err d → Decided class cap g j base last P k L w r
       along_decides d x = let n : r ≡ Ok tt → ⊥ = λ e. decided_not d (sym x ∙ e) in record {
         decides = sym ((finding P k cap (room_of g.book) (so_far L) w).found p (ruled r) (let t = S.to in omega arith) A.quiet (λ e. ruled_stops d (ap ruled (sym x) ∙ e)) (sym rules'));
-        shown = J.shown;
+        shown = along_judged.shown;
         held = λ e. absurd (n e);
         total = λ e. absurd (n e);
         tracked = λ e. absurd (n e);
@@ -214,7 +217,7 @@ module _ {V : Type 0} (class : V → Class) (cap : ℕ) (base last : ℕ) (P : T
       module _ (e : r ≡ Ok tt) where
         kept : (w' : World) (q : ℕ) → base ≤ q → q ≤ last → (q ≡ p → ⊥) → Held class cap h P k w' q → Held class cap j P k w' q
         kept w' q l m n x =
-            let y : row_at class cap j (q % 5) ≡ row_at class cap h (q % 5) = J.other e (q % 5) (omega arith) (λ z. n (omega arith)) in
+            let y : row_at class cap j (q % 5) ≡ row_at class cap h (q % 5) = along_judged.other e (q % 5) (omega arith) (λ z. n (omega arith)) in
             record { stands = subst (Stands P k w' q) (sym y) x.stands; once = subst (λ z. apart alikeᶜ z ≡ true) (sym y) x.once }
 
         next_quiet : (q : ℕ) → q < suc p → D.ruling_at P k cap (room_of g.book) (so_far L) w q ≡ D.goes_on
@@ -223,21 +226,21 @@ module _ {V : Type 0} (class : V → Class) (cap : ℕ) (base last : ℕ) (P : T
 
         next_done : (q : ℕ) → base ≤ q → q < suc p → Held class cap j P k w q
         next_done q l m =
-            ⊎_elim (λ (i : q ≡ p). subst (λ (z : ℕ). Held class cap j P k w z) (sym i) (J.held e)) (λ n. kept w q l (omega arith) n (A.done q l (omega (arith, λ (z : q ≡ p). n z)))) (cases_eq q p)
+            ⊎_elim (λ (i : q ≡ p). subst (λ (z : ℕ). Held class cap j P k w z) (sym i) (along_judged.held e)) (λ n. kept w q l (omega arith) n (A.done q l (omega (arith, λ (z : q ≡ p). n z)))) (cases_eq q p)
 
         next_tracked : (q : ℕ) → base ≤ q → q ≤ last → Tracked class cap P k w q j (q % 5)
         next_tracked q l m =
-            ⊎_elim (λ (i : q ≡ p). subst (λ (z : ℕ). Tracked class cap P k w z j (z % 5)) (sym i) (J.tracked e))
+            ⊎_elim (λ (i : q ≡ p). subst (λ (z : ℕ). Tracked class cap P k w z j (z % 5)) (sym i) (along_judged.tracked e))
             (λ (n : q ≡ p → ⊥). let ne : q % 5 ≡ p % 5 → ⊥ = λ z. n (omega arith) in
-            tracked_kept class cap P k w q h j (q % 5) (omega arith) R (J.other e (q % 5) (omega arith) ne) (X (q % 5) ne) (J.kept e) (A.tracked q l m)) (cases_eq q p)
+            tracked_kept class cap P k w q h j (q % 5) (omega arith) R (along_judged.other e (q % 5) (omega arith) ne) (X (q % 5) ne) (along_judged.kept e) (A.tracked q l m)) (cases_eq q p)
 
         pub along_more : Along class cap (room_of g.book) j base last (p + 1) P k L w
         along_more = subst (λ (z : ℕ). Along class cap (room_of g.book) j base last z P k L w) (sym (add-one p)) (record {
           quiet = next_quiet;
           done = next_done;
           held = λ q l m. kept (so_far L) q (omega arith) m (λ z. omega arith) (A.held q (omega arith) m);
-          safe = λ q l m. ap D.any_error (J.other e (q % 5) (omega arith) (λ z. omega arith)) ∙ A.safe q (omega arith) m;
-          entered = J.needs e;
+          safe = λ q l m. ap D.any_error (along_judged.other e (q % 5) (omega arith) (λ z. omega arith)) ∙ A.safe q (omega arith) m;
+          entered = along_judged.needs e;
           tracked = next_tracked;
         })
 

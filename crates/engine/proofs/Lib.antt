@@ -8,6 +8,7 @@ pub mod Fronts
 pub mod Tables
 pub mod Properties
 pub mod Fills
+pub mod Since
 pub mod Steps
 pub mod Judging
 pub mod Windows

@@ -14,7 +14,7 @@ use Rattle.engine.specs.declared.front.Decision.TheVariants.{Breaks, Spills, Ove
 use Rattle.engine.specs.Trails.{steps_to, steps_by, room_of}
 use Rattle.engine.specs.Fronts.{row_at, Grid, Others}
 use Rattle.engine.specs.Grids.{grid_of}
-use Rattle.engine.specs.Fills.{Tracked}
+use Rattle.engine.specs.Fills.{Onto, Tracked}
 
 -- the theory's ruling
 abbrev pub ruled : Result (Unit {0}) Decision → D.Ruling
@@ -44,6 +44,7 @@ pub record Judged {V : Type 0} (class : V → Class) (cap : ℕ) (g h : Grid V) 
   pub rules : ruled r ≡ D.ruling_at P k cap (room_of g.book) (so_far L) w p
   pub shown : ShowsRun P k w h.book r
   pub held : r ≡ Ok tt → Held class cap h P k w p
+  pub onto : r ≡ Ok tt → Onto class cap (p % 5) g h
   pub other : r ≡ Ok tt → Others class cap (p % 5) g h
   pub kept : r ≡ Ok tt → (n : ℕ) → n < g.used → steps_to h.book n ≡ steps_to g.book n
   pub needs : r ≡ Ok tt → h.used ≡ D.need P k (so_far L) w p

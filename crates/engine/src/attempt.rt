@@ -6,9 +6,9 @@ ghost use Rattle.tables.specs.Views.{pattern, matcher};
 ghost use Rattle.engine.specs.Views.{Shown, Seen, told};
 
 use crate::numbered::Outcome;
-use tables::parts::{Matcher, Register};
 use crate::window::Witnessed;
 use kinds::kind::Kind;
+use tables::parts::{Matcher, Register};
 use topl::pattern::Pattern;
 
 // Does a value fit a pattern?
@@ -68,19 +68,20 @@ fn write_matcher<K: Kind>(registers: &mut [K::Value; 8], event: &Witnessed<K::Va
 pub(crate) fn attempt_statement<K: Kind>(
     events: &[Witnessed<K::Value>],
     matchers: &[Matcher],
-    mut registers: [K::Value; 8],
+    registers: &[K::Value; 8],
 ) -> Outcome<K::Value>
     ensures { (es : List Happening) → Seen K.Kind.class events.now es
-        → told K.Kind.class result ≡ fares (map matcher matchers.now) (map K.Kind.class registers) es }
+        → told K.Kind.class result ≡ fares (map matcher matchers.now) (map K.Kind.class registers.now) es }
 {
+    let mut held = *registers;
     for (j, matcher) in matchers.iter().enumerate() {
         let Some(event) = events.get(j) else {
             return Outcome::Hangs;
         };
-        if !meets_matcher::<K>(&registers, event, matcher) {
+        if !meets_matcher::<K>(&held, event, matcher) {
             return Outcome::Fails;
         }
-        write_matcher::<K>(&mut registers, event, matcher);
+        write_matcher::<K>(&mut held, event, matcher);
     }
-    Outcome::Passes(registers)
+    Outcome::Passes(held)
 }

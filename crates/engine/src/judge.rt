@@ -4,7 +4,8 @@ ghost use Rattle.topl.specs.Table.{Event as Happening, Table as TheTable};
 ghost use Rattle.topl.specs.Runs.{Registers, World};
 ghost use Rattle.engine.specs.declared.front.Breach as B;
 ghost use Rattle.engine.specs.declared.front.Decision.TheVariants.{Breaks};
-ghost use Rattle.engine.specs.Fills.{ReadyFor, Keeps, Watched, shown_entry};
+ghost use Rattle.engine.specs.Fills.{ReadyFor, Since, SinceAt, Keeps, Watched, shown_entry};
+ghost use Rattle.engine.specs.Grids.{grid_of};
 ghost use Rattle.engine.specs.Judging.{Balance, JudgedAt, StartsAt, DecidedBy};
 
 use crate::fill::fill_position;
@@ -23,6 +24,7 @@ fn judge_position<K: Kind>(
     ensures rules { (P : TheTable) (k : Registers) (L : List Happening) (w : World) → Watched K.Kind.class position.now.scene.now P w
         → ReadyFor K.Kind.class position.now P k L w grid.old
         → Balance grid.old.book.used position.now.number P k L w
+        → SinceAt K.Kind.class position.now P k L w grid.old
         → JudgedAt K.Kind.class position.now P k L w grid.old grid.new result }
 {
     let slot = Slot::of(position.number);
@@ -47,6 +49,7 @@ pub(crate) fn judge<K: Kind>(
     ensures long { length grid.new.book.entries.items ≡ length grid.old.book.entries.items }
     ensures known { (b : B.Breach) → result ≡ Err (Breaks b) → b.last.parent < grid.new.book.used }
     ensures decides { (P : TheTable) (k : Registers) (L : List Happening) (w : World) → Watched K.Kind.class scene.now P w
+        → Since K.Kind.class grid.old.cap scene.now.before.now scene.now.judged (grid_of grid.old) scene.now.base (scene.now.base + length scene.now.events.now) P k L w
         → StartsAt K.Kind.class scene.now.base (scene.now.base + length scene.now.events.now) P k L w grid.old
         → DecidedBy K.Kind.class scene.now.base (scene.now.base + length scene.now.events.now) P k L w grid.old grid.new result }
 {

@@ -10,8 +10,8 @@ use crate::front::Front;
 use crate::row::put_configuration;
 use crate::slot::Slot;
 use crate::state::State;
-use tables::parts::Register;
 use kinds::kind::Kind;
+use tables::parts::Register;
 use topl::states::START;
 
 // The registers at the start: the constants in theirs, and nothing in the others.

@@ -14,13 +14,13 @@ use crate::front::{Decision, Front};
 use crate::grid::Grid;
 use crate::mode::Mode;
 use crate::open::open_rows;
-use tables::table::Table;
 use crate::remember::{forget, witness};
 use crate::settle::settle;
 use crate::slot::Slot;
 use crate::state::State;
 use crate::window::{Window, Witnessed};
 use kinds::kind::Kind;
+use tables::table::Table;
 
 // The table, the values, the cap, the board and the book do not suit each other.
 #[derive(Clone, Copy, Debug)]
@@ -107,7 +107,13 @@ impl<K: Kind> Rows<K> {
         forget::<K>(&mut state.window);
         witness::<K>(&mut state.window, id, values);
         state.grid.front.clear(Slot::of(judged + 1));
-        settle::<K>(state, table, Mode::Settled, judged.saturating_sub(3))
+        settle::<K>(
+            state,
+            table,
+            Mode::Settled,
+            judged.saturating_sub(3),
+            judged,
+        )
     }
 
     // The list has ended after so many judged events.
@@ -122,7 +128,7 @@ impl<K: Kind> Rows<K> {
         let judged = judged.min(MOST_ENTRIES);
         let state = &mut self.state;
         forget::<K>(&mut state.window);
-        settle::<K>(state, table, Mode::Closed, judged.saturating_sub(3))
+        settle::<K>(state, table, Mode::Closed, judged.saturating_sub(3), judged)
     }
 
     // Writes the steps of a run into the front of a page and tells their count: those that lead to an entry of the book, and one more.

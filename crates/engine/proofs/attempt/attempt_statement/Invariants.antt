@@ -7,5 +7,5 @@ use Rattle.engine.proofs.attempt.attempt_statement.Given as goal
 
 abbrev pub invariant-loop-j : goal.invariant-loop-j
 invariant-loop-j g l = (es : List Event) → Seen g.K.Kind.class l.events es →
-    fares (map matcher l.matchers) (map g.K.Kind.class l.initial.registers) es
-    ≡ fares (drop l.j (map matcher l.matchers)) (map g.K.Kind.class l.registers) (drop l.j es)
+    fares (map matcher l.matchers) (map g.K.Kind.class l.registers) es
+    ≡ fares (drop l.j (map matcher l.matchers)) (map g.K.Kind.class l.held) (drop l.j es)

@@ -4,11 +4,11 @@ use Rattle.engine.specs.Views.{stated}
 use Rattle.engine.specs.Fronts.{stands_for}
 use Rattle.engine.proofs.Tables.{written_is, implied_is}
 use Rattle.engine.proofs.Fills.{safe_on}
-use Rattle.engine.proofs.Steps.{steps_more, steps_end, steps_error}
+use Rattle.engine.proofs.Steps.{steps_had, steps_more, steps_end, steps_error}
 use Rattle.engine.proofs.fill.step_configuration.Goals as goal
 
 pub returns-in_err-step_statement-clause-brings : goal.returns-in_err-step_statement-clause-brings
-returns-in_err-step_statement-clause-brings g c P k w W r =
+returns-in_err-step_statement-clause-brings g c P k w W r _ =
     let told = err_from_is_err_and c.from_residual-in_err-step_statement.result c.from_residual-in_err-step_statement.ensures.1 in
     let class = g.K.Kind.class in
     let s = c.args.grid.now in
@@ -26,6 +26,15 @@ returns-in_err-step_statement-clause-brings g c P k w W r =
     rw (told.1, told.2)
     (steps_error P w base d p class slot k s c.step_statement.new.grid (i + 1) x
     (steps_more P w base d p class slot k s c.loop-i.grid c.step_statement.new.grid c.loop-i.invariant.safe.cap i (t.number, stated t) (Err x) at.entry is.0 is.1 c.requires r (c.loop-i.invariant.brings P k w W r) (c.in_err-step_statement.ensures.brings P k w W)))
+
+pub returns-then-is_decided-clause-brings : goal.returns-then-is_decided-clause-brings
+returns-then-is_decided-clause-brings g c P k w W r had =
+    let class = g.K.Kind.class in
+    let at = c.args.at.now in
+    let p = c.args.position.now.number in
+    let t = c.step_skip.new.grid in
+    steps_had P w c.args.position.now.scene.now.base (stands_for class at.configuration) p class (p % 5) k c.args.grid.now t c.in_ok-step_skip.ensures.safe.cap (omega arith) (had c.if-is_decided.true).1
+    (c.in_ok-step_skip.ensures.brings P k w W r)
 
 pub loop-i-preserved : goal.loop-i-preserved
 loop-i-preserved g c =
@@ -48,7 +57,7 @@ loop-i-preserved g c =
     }
 
 pub returns-clause-brings : goal.returns-clause-brings
-returns-clause-brings g c P k w W r =
+returns-clause-brings g c P k w W r _ =
     let class = g.K.Kind.class in
     let s = c.args.grid.now in
     let t = c.implied_by.result in

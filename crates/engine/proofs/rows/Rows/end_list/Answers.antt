@@ -9,6 +9,8 @@ use Rattle.engine.specs.Windows.{Remembers}
 use Rattle.engine.proofs.Properties.{lawful}
 use Rattle.engine.proofs.Starts.{start_close}
 use Rattle.engine.proofs.Following.{seen_count}
+use Rattle.engine.specs.Fills.{Since}
+use Rattle.engine.proofs.Since.{since_first}
 use Rattle.engine.proofs.rows.Rows.end_list.Goals as goal
 
 pub returns-clause-rules : goal.returns-clause-rules
@@ -30,5 +32,8 @@ returns-clause-rules g c k L S j F =
     let S₁ = subst (λ (z : ℕ). Start class s.cap (grid_of s) z n P k L (closing L)) (sym base) S₀ in
     let S₂ = subst (λ (z : ℕ). Start class s.cap (grid_of s) c.saturating_sub.result z P k L (closing L)) (sym last) S₁ in
     let R₁ = subst (λ (z : ℕ). Remembers class W (drop z L)) (sym base) R in
-    let D = c.settle.ensures.decides k L (closing L) refl R₁ S₂ in
+    let N₀ = since_first class s.front.counts c.min-judged.result (n - 3) n P k L (closing L) s.cap (grid_of s) refl (omega arith) (λ q d u l. refl) F.held in
+    let N₁ = subst (λ (z : ℕ). Since class s.cap s.front.counts c.min-judged.result (grid_of s) z n P k L (closing L)) (sym base) N₀ in
+    let N₂ = subst (λ (z : ℕ). Since class s.cap s.front.counts c.min-judged.result (grid_of s) c.saturating_sub.result z P k L (closing L)) (sym last) N₁ in
+    let D = c.settle.ensures.decides k L (closing L) refl R₁ N₂ S₂ in
     record { rules = D.decides; shown = D.shown }

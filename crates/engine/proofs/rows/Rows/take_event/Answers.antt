@@ -12,6 +12,8 @@ use Rattle.engine.proofs.Properties.{lawful}
 use Rattle.engine.proofs.Fronts.{cleared_room}
 use Rattle.engine.proofs.Starts.{cleared, start_feed}
 use Rattle.engine.proofs.Following.{remembers_more, seen_count, follows_on}
+use Rattle.engine.specs.Fills.{Since}
+use Rattle.engine.proofs.Since.{same_longer, since_first}
 use Rattle.engine.proofs.rows.Rows.take_event.Goals as goal
 
 pub returns-clause-rules : goal.returns-clause-rules
@@ -45,7 +47,10 @@ returns-clause-rules g c k L S j F =
     let S₁ = subst (λ (z : ℕ). Start class cap H z (suc n) P k L (so_far (L ++ ev ∷ []))) (sym base) S₀ in
     let S₂ = subst (λ (z : ℕ). Start class cap H c.saturating_sub.result z P k L (so_far (L ++ ev ∷ []))) (sym last) S₁ in
     let R₁ = subst (λ (z : ℕ). Remembers class W (drop z (L ++ ev ∷ []))) (sym base) R in
-    let D = X.decides k L (so_far (L ++ ev ∷ [])) refl R₁ S₂ in
+    let N₀ = since_first class G.counts c.min-judged.result (n - 3) (suc n) P k L (so_far (L ++ ev ∷ [])) cap H refl judged (same_longer L ev) S₀.held in
+    let N₁ = subst (λ (z : ℕ). Since class cap G.counts c.min-judged.result H z (suc n) P k L (so_far (L ++ ev ∷ []))) (sym base) N₀ in
+    let N₂ = subst (λ (z : ℕ). Since class cap G.counts c.min-judged.result H c.saturating_sub.result z P k L (so_far (L ++ ev ∷ []))) (sym last) N₁ in
+    let D = X.decides k L (so_far (L ++ ev ∷ [])) refl R₁ N₂ S₂ in
     let D₁ = subst (λ (z : ℕ). Decided class cap H (grid_of t.grid) c.saturating_sub.result z P k L (so_far (L ++ ev ∷ [])) c.settle.result) last D in
     let D₂ = subst (λ (z : ℕ). Decided class cap H (grid_of t.grid) z (suc n) P k L (so_far (L ++ ev ∷ [])) c.settle.result) base D₁ in (
       record { rules = D₂.decides; shown = D₂.shown },
