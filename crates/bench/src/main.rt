@@ -3,7 +3,7 @@
 
 use anyhow::Context;
 use day::listing::MOST_BYTES;
-use day::report::report;
+use day::report::{MOST_CONSTANTS, report};
 use judging::judge::judge;
 use judging::outcome::Outcome;
 use kinds::kind::Kind;
@@ -13,11 +13,8 @@ use std::fs::File;
 use std::io::{ErrorKind, Read, Write};
 use std::time::Instant;
 
-// The most bytes that a property text has.
-const MOST_TEXT: usize = 8_192;
-
-// The most bytes that nine values of constants take.
-const MOST_CONSTANTS: usize = 9 * Labels::LONGEST;
+// The most bytes that so many values of constants take.
+const MOST_CONSTANT_BYTES: usize = MOST_CONSTANTS * Labels::LONGEST;
 
 fn main(rt: HostRuntime) -> anyhow::Result<()> {
     run(&rt)
@@ -31,12 +28,12 @@ struct Day {
     constants: Vec<u8>,
 }
 
-// The first bytes of a file, and none where there is no such file.
-fn first_bytes(rt: &HostRuntime, path: &str, most: usize) -> anyhow::Result<Vec<u8>> {
+// The bytes of a file, of which no more than so many count, and none where there is no such file.
+fn bytes_of(rt: &HostRuntime, path: &str, most: u64) -> anyhow::Result<Vec<u8>> {
     let mut bytes = Vec::new(rt.alloc());
     match File::open(rt, path) {
         Ok(file) => {
-            file.take(most as u64)
+            file.take(most)
                 .read_to_end(&mut bytes)
                 .context(format_args!("cannot read {path}"))?;
         }
@@ -48,10 +45,10 @@ fn first_bytes(rt: &HostRuntime, path: &str, most: usize) -> anyhow::Result<Vec<
 
 // The day of property.txt, constants.bin and the journal on standard input.
 fn read_day(rt: &HostRuntime) -> anyhow::Result<Day> {
-    // One byte more than a text or a journal may have, so that a longer one is told from it.
-    let text = first_bytes(rt, "property.txt", MOST_TEXT + 1)?;
-    let constants = first_bytes(rt, "constants.bin", MOST_CONSTANTS)?;
+    let text = bytes_of(rt, "property.txt", u64::MAX)?;
+    let constants = bytes_of(rt, "constants.bin", MOST_CONSTANT_BYTES as u64)?;
     let mut journal = Vec::new(rt.alloc());
+    // One byte more than a journal may have, so that a longer one is told from it.
     rt.stdin()
         .take(MOST_BYTES as u64 + 1)
         .read_to_end(&mut journal)?;

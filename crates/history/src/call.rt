@@ -2,8 +2,8 @@
 ghost use Rattle.std.specs.Prelude.{◌≡◌};
 ghost use Rattle.watch.specs.Answers.{began, told, drew};
 
-use tables::table::Table;
 use kinds::refusal::Refusal;
+use tables::table::Table;
 use watch::standing::{Standing, Verdict};
 
 // What is asked of a watch. A draw names its source by its place in a list, and a path hands over what its page holds.

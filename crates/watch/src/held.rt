@@ -4,8 +4,8 @@ ghost use Rattle.watch.specs.Stages.{phase_of, position_of};
 ghost use Rattle.watch.specs.declared.held.Stage.TheVariants.{Blank};
 
 use engine::front::Breach;
-use tables::table::Table;
 use kinds::phase::Phase;
+use tables::table::Table;
 
 // The phase, with what the watch keeps for it: the table that was lent while it runs, and the breach once it is broken.
 #[derive(Clone, Copy)]

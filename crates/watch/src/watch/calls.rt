@@ -15,13 +15,13 @@ use crate::watch::Watch;
 use engine::book::MOST_ENTRIES;
 use engine::entry::Entry;
 use engine::front::Decision;
-use tables::table::Table;
 use engine::rows::Rows;
 use kinds::kind::Kind;
 use kinds::phase::Phase;
 use kinds::refusal::Refusal;
 use kinds::watch_reason::WatchReason;
 use sources::source::Source;
+use tables::table::Table;
 
 impl<'a, K: Kind> Watch<'a, K> {
     // A blank watch over a board and a book of any content and length.

@@ -10,12 +10,12 @@ ghost use Rattle.tables.specs.Properties.{method};
 
 use crate::held::Stage;
 use crate::watch::Watch;
-use tables::table::Table;
-use property::table::Method;
 use kinds::kind::Kind;
 use kinds::refusal::{Layer, Reason, Refusal};
 use kinds::watch_reason::WatchReason;
+use property::table::Method;
 use sources::event::make::{LAST_ID, is_return, method_of, most_values};
+use tables::table::Table;
 
 impl<'a, K: Kind> Watch<'a, K> {
     // The refusal for a reason, placed at the judged count.
