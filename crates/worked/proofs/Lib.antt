@@ -2,5 +2,6 @@ mod Days
 mod Lexemes
 mod Reading
 mod Recorded
+mod Steps
 mod Whole
 mod Written

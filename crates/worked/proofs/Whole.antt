@@ -1,10 +1,12 @@
--- The worked days as wholes: from the bytes of a text, of a journal and of constants to the outcome.
-use Rattle.std.proofs.Common.{◌≡◌, ℕ, List, [], ◌∷◌, take, length, Some, Ok, Result, sym, refl, ap, ◌∙◌, subst, inl, arith}
+-- The worked days as wholes: from the bytes of a text, of a journal and of constants to the outcome and its report.
+use Rattle.std.proofs.Common.{◌≡◌, ℕ, ◌↔◌, List, [], ◌∷◌, take, length, Some, Ok, Result, sym, refl, ap, ◌∙◌, subst, inl, arith}
 use Rattle.kinds.specs.Labels.{label_class, label_read}
+use Rattle.kinds.specs.Meaning.{label_keeps}
 use Rattle.kinds.specs.Numbers.{groups_read, number_class, number_value}
 use Rattle.kinds.specs.declared.refusal.Fault.{Fault}
 use Rattle.kinds.specs.declared.refusal.Reason.TheVariants.{Watch as of_watch}
 use Rattle.kinds.specs.declared.watch_reason.WatchReason.TheVariants.{OtherConstants}
+use Rattle.day.specs.Reporting.{Reported, report_of}
 use Rattle.judging.specs.Outcomes.{ComesBy, ConstantsRead, Ends, Judged, Outcome, begin_refused, broken, broken_by_end, broken_by_event, judged, kept, kept_to_end, read, watch_refuses}
 use Rattle.judging.proofs.Only.{judged_so}
 use Rattle.limits.specs.Tables.{table_of}
@@ -23,7 +25,8 @@ use Rattle.topl.proofs.Sole.{only_run}
 use Rattle.topl.proofs.Verdicts.{verdicts}
 use Rattle.worked.specs.Journals.{Journals, gpr_bytes, gpr_events, gprz_bytes, gprz_events, label_bytes, label_events, number_bytes, number_events, other_bytes, other_events}
 use Rattle.worked.specs.Texts.{stale_property, stale_text, wait_property, wait_text}
-use Rattle.worked.proofs.Recorded.{gpr_recorded, gprz_recorded, labels_recorded, numbers_recorded, other_recorded}
+use Rattle.worked.proofs.Recorded.{gpr_recorded, gprz_recorded, labels_recorded, number_keeps, numbers_recorded, other_recorded}
+use Rattle.worked.proofs.Steps.{day_steps, no_steps, reports}
 use Rattle.worked.proofs.Written.{stale_written, wait_written}
 
 -- EVENTS
@@ -64,15 +67,20 @@ gprz_ends =
     ((verdicts wait (initial wait []) 64 16384 (so_far gprz) gprz worked.wait_lawful).2 refl)
 
 -- DAYS
+-- No constants are read from no bytes.
+no_constant : {V : Type 0} (reads : List ℕ → Result (V × ℕ) Fault) → ConstantsRead reads [] (Ok [])
+no_constant reads = read [] 0 (none 0) (omega arith) (inl (omega arith))
+
 -- A day with no constants comes out as its events do.
 comes_out : {V : Type 0} (reads : List ℕ → Result (V × ℕ) Fault) (number : ℕ) (class : V → Class) (text journal : List ℕ) (P : Property) (t : Table)
     (hs : List (Happening V)) (es : List Event) (o : Outcome) → Written text P → table_of P ≡ t → t.constants ≡ [] → Journals number reads class journal hs es
     → Ends t (initial t []) es (Ok tt) o → ComesBy reads number class text journal [] o
 comes_out reads number class text journal P t hs es o w same no_constants j e =
-    judged P [] hs (Ok tt) o w j.opens (read [] 0 (none 0) (omega arith) (inl (omega arith)))
+    judged P [] hs (Ok tt) o w j.opens (no_constant reads)
     (ap length (sym no_constants) ∙ ap (λ (z : Table). length z.constants) (sym same)) j.records
     (subst (λ (z : Table × List Event). Ends z.0 (initial z.0 []) z.1 (Ok tt) o) (λ i. (sym same i, sym j.seen_as i)) e)
 
+-- The days come out so, and in no other way.
 pub stale_breaks : Judged stale_text number_bytes [] (broken 4 4 first_path)
 stale_breaks =
     judged_so stale_text number_bytes [] _
@@ -103,8 +111,39 @@ constant_read : ConstantsRead number_value (1 ∷ []) (Ok (Some 1 ∷ []))
 unfolding groups_read
 constant_read = read (Some 1 ∷ []) 1 (one_more 0 (Some 1) 1 [] 1 refl (none 1)) (omega arith) (inl (omega arith))
 
+-- The watch does not begin with it.
 constant_comes : ComesBy number_value 1 number_class stale_text number_bytes (1 ∷ []) (watch_refuses (of_watch OtherConstants) 0)
 constant_comes = begin_refused stale_property (Some 1 ∷ []) stale_written refl constant_read (λ e. absurd (omega (arith, e)))
 
 pub constant_refused : Judged stale_text number_bytes (1 ∷ []) (watch_refuses (of_watch OtherConstants) 0)
 constant_refused = judged_so stale_text number_bytes (1 ∷ []) _ constant_comes
+
+-- REPORTS
+-- A broken day reports the steps of its one run.
+pub stale_report : (bytes : List ℕ) → Reported stale_text number_bytes [] bytes ↔ (bytes ≡ report_of (broken 4 4 first_path))
+unfolding runs
+stale_report =
+    reports stale_text number_bytes [] _ stale_breaks (λ p c. day_steps stale applied 4 4 first_path refl number_value 9 number_keeps 1 number_class stale_text number_bytes
+    stale_property number_events stale_written refl numbers_recorded (no_constant number_value) c)
+
+pub labels_report : (bytes : List ℕ) → Reported stale_text label_bytes [] bytes ↔ (bytes ≡ report_of (broken 4 4 first_path))
+unfolding runs
+labels_report =
+    reports stale_text label_bytes [] _ labels_break (λ p c. day_steps stale applied_labels 4 4 first_path refl label_read 17 label_keeps 2 label_class stale_text label_bytes
+    stale_property label_events stale_written refl labels_recorded (no_constant label_read) c)
+
+pub wait_breaks_report : (bytes : List ℕ) → Reported wait_text gpr_bytes [] bytes ↔ (bytes ≡ report_of (broken 3 3 (1 ∷ 0 ∷ 3 ∷ [])))
+unfolding runs
+wait_breaks_report =
+    reports wait_text gpr_bytes [] _ wait_breaks_at_close (λ p c. day_steps wait gpr 3 3 (1 ∷ 0 ∷ 3 ∷ []) refl number_value 9 number_keeps 1 number_class wait_text gpr_bytes
+    wait_property gpr_events wait_written refl gpr_recorded (no_constant number_value) c)
+
+-- A kept or refused day shows no steps.
+pub other_value_report : (bytes : List ℕ) → Reported stale_text other_bytes [] bytes ↔ (bytes ≡ report_of (kept 4))
+other_value_report = reports stale_text other_bytes [] _ other_value_kept (λ p c e. no_steps (kept 4) p refl e)
+
+pub wait_kept_report : (bytes : List ℕ) → Reported wait_text gprz_bytes [] bytes ↔ (bytes ≡ report_of (kept 4))
+wait_kept_report = reports wait_text gprz_bytes [] _ wait_kept (λ p c e. no_steps (kept 4) p refl e)
+
+pub constant_report : (bytes : List ℕ) → Reported stale_text number_bytes (1 ∷ []) bytes ↔ (bytes ≡ report_of (watch_refuses (of_watch OtherConstants) 0))
+constant_report = reports stale_text number_bytes (1 ∷ []) _ constant_refused (λ p c e. no_steps (watch_refuses (of_watch OtherConstants) 0) p refl e)

@@ -37,14 +37,14 @@ stale_bytes last =
     0x0A ∷ 0x00 ∷
     0x08 ∷ 0x02 ∷ 0x0C ∷ last
 
--- 900 again
+-- 900 again, as it was fetched
 abbrev pub number_bytes : List ℕ
 number_bytes = stale_bytes (0x84 ∷ 0x07 ∷ [])
 
 abbrev pub number_events : List (Happening (Option ℕ))
 number_events = stale_events (Some 12) (Some 900) (Some 12) (Some 900)
 
--- 901
+-- 901, which was not fetched
 abbrev pub other_bytes : List ℕ
 other_bytes = stale_bytes (0x85 ∷ 0x07 ∷ [])
 
