@@ -1,4 +1,4 @@
-// Walking a shown run step by step, by the property's table, the journal's events and the values of the constants: of the code that is tried only the readers of texts and journals stand behind it, and not the code that judges.
+// Walking a shown run step by step, by the property's table, the journal's events and the values of the constants. Of the code under test only the readers of texts and journals stand behind it, not the code that judges.
 use crate::misstep::Misstep;
 use kinds::kind::Kind;
 use sources::event::Event;
