@@ -1,4 +1,4 @@
-// Judges days whose outcome is known: it compares the first line of each report, walks each run that is shown, and prints what differs.
+// Judges days whose first line is known: it compares each whole report, walks each run that is shown, and prints what differs.
 #![tactic(auto)]
 
 mod long;
@@ -26,29 +26,35 @@ fn main(rt: HostRuntime) -> anyhow::Result<()> {
     run(&rt)
 }
 
-// Walks the run that a report shows, if it tells of a broken day.
-fn check_run(heap: Global, day: &Day, report: &str) -> Result<(), Misstep> {
-    if !report.starts_with("broken ") {
-        return Ok(());
+// The whole report that is expected of a day: its line, and of a broken day a second one with the steps that are shown, if they are those of a run.
+fn expected_report(heap: Global, day: &Day, report: &str) -> Result<String, Misstep> {
+    let first = day.expected.as_str();
+    if !first.starts_with("broken ") {
+        return Ok(format!(in heap; "{first}\n")?);
     }
-    Shown::of(heap, report)?.walk(heap, &day.text, &day.journal, &day.constants)
+    let shown = Shown::of(heap, report)?;
+    shown.walk(heap, &day.text, &day.journal, &day.constants)?;
+    Ok(shown.report(heap, first)?)
 }
 
-// Judges a day, the one of a number in a place, and prints what differs; tells whether nothing does.
+// Judges a day and prints what differs, after the place of the day and its number there; tells whether nothing does.
 fn passes(rt: &HostRuntime, day: &Day, place: &str, number: usize) -> anyhow::Result<bool> {
     let heap = rt.alloc();
     let bytes = report(heap, &day.text, &day.journal, &day.constants)?;
-    let report = String::from_utf8(bytes)?;
-    let got = report.lines().next().unwrap_or("");
-    if got != day.expected.as_str() {
-        println!(rt; "{place} {number}: expected {}, got {got}", day.expected)?;
-        return Ok(false);
+    let got = String::from_utf8(bytes)?;
+    match expected_report(heap, day, got.as_str()) {
+        Ok(expected) if got == expected => return Ok(true),
+        Ok(expected) => {
+            println!(rt; "{place} {number}: expected {expected:?}, got {got:?}")?;
+        }
+        Err(misstep) => {
+            println!(rt;
+                "{place} {number}: expected {:?}, got {got:?}: {misstep}",
+                day.expected
+            )?;
+        }
     }
-    if let Err(misstep) = check_run(heap, day, report.as_str()) {
-        println!(rt; "{place} {number}: {got}, but {misstep}")?;
-        return Ok(false);
-    }
-    Ok(true)
+    Ok(false)
 }
 
 // Judges each day of a file.

@@ -6,7 +6,7 @@ use kinds::labels::Labels;
 use kinds::numbers::Numbers;
 use sources::drain::drain;
 use sources::journal::Journal;
-use std::alloc::Global;
+use std::alloc::{AllocError, Global};
 use tables::table::Table;
 use tables::text::read;
 
@@ -66,6 +66,17 @@ impl Shown {
             position,
             steps,
         })
+    }
+
+    // The report with this first line that shows these steps.
+    pub(crate) fn report(&self, heap: Global, first: &str) -> Result<String, AllocError> {
+        let mut report = format!(in heap; "{first}\n")?;
+        for (i, step) in self.steps.iter().enumerate() {
+            let space = if i == 0 { "" } else { " " };
+            write!(report, "{space}{step}")?;
+        }
+        report.push('\n')?;
+        Ok(report)
     }
 
     // Walks the run over values of one kind.

@@ -1,6 +1,8 @@
+// Tests of what the program takes for a report that is right, over reports that are wrong in one place.
+use crate::expected_report;
 use crate::misstep::Misstep;
 use crate::shown::Shown;
-use std::alloc::Global;
+use std::alloc::{AllocError, Global};
 use std::process::Abort;
 use std::test::Fail;
 
@@ -13,7 +15,7 @@ struct Day {
 
 // Stale: fetch of 12, return of 900, midnight, apply of 12 and 900.
 const STALE: Day = Day {
-    text: b"property Stale\nmethod fetch 3 1\nmethod apply 4 2\nmethod midnight 5 0\nstart -> held: S := fetch(F)\nheld -> stale: call midnight()\nstale -> error: call apply(f, s)\n",
+    text: STALE_TEXT,
     journal: b"\x01\x01\x06\x01\x0C\x07\x01\x84\x07\x0A\x00\x08\x02\x0C\x84\x07",
 };
 
@@ -134,4 +136,50 @@ fn refuses_ends(rt: HostRuntime) -> Result<(), Fail> {
     walks(&rt, heap, STALE, "broken 4 5\n1 2 3\n", none)?;
     walks(&rt, heap, STALE, "broken 4 4\n\n", none)?;
     walks(&rt, heap, STALE, "broken 4 4\n", none)
+}
+
+// The day of a line, with this first line expected.
+fn listed(heap: Global, day: Day, expected: &str) -> Result<vectors::day::Day, AllocError> {
+    Ok(vectors::day::Day {
+        text: Vec::from_slice(heap, day.text)?,
+        journal: Vec::from_slice(heap, day.journal)?,
+        constants: Vec::new(heap),
+        expected: String::from_str(heap, expected)?,
+    })
+}
+
+// Whether a report of a day is as this first line says.
+fn is_told(heap: Global, day: Day, expected: &str, report: &str) -> Result<bool, Fail> {
+    let day = listed(heap, day, expected)?;
+    Ok(expected_report(heap, &day, report).is_ok_and(|wanted| wanted.as_str() == report))
+}
+
+// A report is right to the last byte.
+#[test]
+fn compares_whole_reports(rt: HostRuntime) -> Result<(), Fail> {
+    let heap = rt.alloc();
+    for (day, expected, report, right) in [
+        (WAIT, "kept 3", "kept 3\n", true),
+        (WAIT, "kept 3", "kept 3", false),
+        (WAIT, "kept 3", "kept 3\n\n", false),
+        (WAIT, "kept 3", "kept 3\nrubbish", false),
+        (WAIT, "kept 3", "kept 4\n", false),
+        (WAIT, "kept 3", "broken 3 3\n1 0 3\n", false),
+        (STALE, "broken 4 4", "kept 4\n", false),
+        (STALE, "broken 4 4", "broken 4 4\n1 2 3\n", true),
+        (STALE, "broken 4 3", "broken 4 4\n1 2 3\n", false),
+        (STALE, "broken 4 4", "broken +4 4\n1 2 3\n", false),
+        (STALE, "broken 4 4", "broken 4 4 4\n1 2 3\n", false),
+        (STALE, "broken 4 4", "broken 4 4\n+1 2 3\n", false),
+        (STALE, "broken 4 4", "broken 4 4\n1 02 3\n", false),
+        (STALE, "broken 4 4", "broken 4 4\n1  2 3\n", false),
+        (STALE, "broken 4 4", "broken 4 4\n1 2 3 \n", false),
+        (STALE, "broken 4 4", "broken 4 4\n1 2 3", false),
+        (STALE, "broken 4 4", "broken 4 4\n1 2 3\n\n", false),
+        (STALE, "broken 4 4", "broken 4 4\n1 2 3\nrubbish\n", false),
+    ] {
+        let told = is_told(heap, day, expected, report)?;
+        assert_eq!(rt; told, right, "{expected} of {report}");
+    }
+    Ok(())
 }

@@ -1,4 +1,4 @@
-// Walking a shown run step by step, by the property's table, the journal's events and the values of the constants: no code that judges days stands behind it.
+// Walking a shown run step by step, by the property's table, the journal's events and the values of the constants. Of the code under test only the readers of texts and journals stand behind it, not the code that judges.
 use crate::misstep::Misstep;
 use kinds::kind::Kind;
 use sources::event::Event;
