@@ -8,7 +8,7 @@ rounds=${2:-200}
 cd "$(dirname "$0")/.." || exit
 top=$PWD
 ours=$top/crates/bench/out/bench
-(cd crates/bench && rt run) >/dev/null || { echo 'crates/bench is not proved' >&2; exit 1; }
+(cd crates/bench && rt run <stdin) >/dev/null 2>&1 || { echo 'crates/bench is not proved' >&2; exit 1; }
 
 work=$(mktemp -d) || exit
 trap 'rm -rf "$work"' EXIT
