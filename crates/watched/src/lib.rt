@@ -1,4 +1,4 @@
-// Tests of a watch over worked days: every answer in every phase, draws, constants, patterns, and the same calls as a history.
+// Tests of a watch: worked days, every answer in every phase, caps and books, draws from each source, constants, patterns, and histories.
 #![tactic(auto)]
 
 #[cfg(test)]

@@ -12,13 +12,14 @@ use std::process::Abort;
 use std::test::Fail;
 use tables::table::Table;
 use tables::text::read;
-use watch::standing::Standing;
+use watch::standing::{Standing, Verdict};
 use watch::watch::Watch;
 
 mod days;
 mod draws;
 mod histories;
 mod phases;
+mod room;
 mod values;
 
 // A schedule that is applied after midnight as it was fetched before.

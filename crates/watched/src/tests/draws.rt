@@ -5,10 +5,14 @@ use narrow::filter::Narrow;
 use sources::journal::Journal;
 use sources::source::Source;
 
-// The stale day, with a call of method 10 before midnight.
+// The stale day in numbers, with a call of method 10 before midnight.
 const DAY: &[u8] = &[
     1, 1, 6, 1, 12, 7, 1, 0x84, 7, 20, 0, 10, 0, 8, 2, 12, 0x84, 7,
 ];
+
+// The same day in labels, applied in the other case.
+const LABELLED: &[u8] =
+    b"\x01\x02\x06\x01\x05HW-12\x07\x01\x05day-1\x14\x00\x0a\x00\x08\x02\x05hw-12\x05DAY-1";
 
 // What a draw is answered.
 type Drawn = Result<Option<Standing>, Refusal>;
@@ -16,9 +20,9 @@ type Drawn = Result<Option<Standing>, Refusal>;
 const RUNNING: Drawn = Ok(Some(Standing::Running));
 
 // Each draw in turn is answered so.
-fn draws<S: Source<Numbers>>(
+fn draws<K: Kind, S: Source<K>>(
     rt: &impl Abort,
-    watch: &mut Watch<'_, Numbers>,
+    watch: &mut Watch<'_, K>,
     source: &mut S,
     says: &[Drawn],
 ) {
@@ -27,35 +31,30 @@ fn draws<S: Source<Numbers>>(
     }
 }
 
-// The stale day out of a source that has no event of another method: broken at 4, and then nothing more is drawn.
-fn draws_the_stale_day<S: Source<Numbers>>(
+// The stale day out of a source: broken at the last of so many events, by these steps, and then nothing more is drawn.
+fn draws_the_stale_day<K: Kind, S: Source<K>>(
     rt: &impl Abort,
     heap: Global,
     source: &mut S,
+    events: usize,
+    steps: &[u8],
 ) -> Result<(), Fail> {
     let stale = table(heap, STALE)?;
-    let mut watch = running::<Numbers>(heap, &stale, 64, 16_384)?;
-    let broken = Ok(Some(Standing::Broken(4)));
-    draws(
-        rt,
-        &mut watch,
-        &mut *source,
-        &[RUNNING, RUNNING, RUNNING, broken],
-    );
-    draws(
-        rt,
-        &mut watch,
-        source,
-        &[Err(refusal(WatchReason::IsBroken, 4))],
-    );
-    shows(rt, &watch, &[1, 2, 3]);
+    let mut watch = running::<K>(heap, &stale, 64, 16_384)?;
+    for _ in 1..events {
+        draws(rt, &mut watch, &mut *source, &[RUNNING]);
+    }
+    let broken = Ok(Some(Standing::Broken(events)));
+    let refused = Err(refusal(WatchReason::IsBroken, events));
+    draws(rt, &mut watch, source, &[broken, refused]);
+    shows(rt, &watch, steps);
     Ok(())
 }
 
 // A mailbox that holds the events of a journal.
-fn posted(heap: Global, journal: &[u8]) -> Result<Mailbox<Numbers>, Fail> {
+fn posted<K: Kind>(heap: Global, journal: &[u8]) -> Result<Mailbox<K>, Fail> {
     let mut mailbox = Mailbox::new(heap, 8)?;
-    let mut journal: Journal<Numbers> = Journal::open(journal)?;
+    let mut journal: Journal<K> = Journal::open(journal)?;
     for _ in 0..8 {
         let Some(event) = journal.next()? else {
             break;
@@ -65,55 +64,56 @@ fn posted(heap: Global, journal: &[u8]) -> Result<Mailbox<Numbers>, Fail> {
     Ok(mailbox)
 }
 
-// A call of a method that no line declares is an event: it is skipped.
-#[test]
-fn draws_from_a_journal(rt: HostRuntime) -> Result<(), Fail> {
-    let stale = table(rt.alloc(), STALE)?;
-    let mut watch = running::<Numbers>(rt.alloc(), &stale, 64, 16_384)?;
-    let mut journal: Journal<Numbers> = Journal::open(DAY)?;
-    draws(&rt, &mut watch, &mut journal, &[RUNNING; 4]);
-    assert_eq!(rt; journal.place(), 13);
-    draws(
-        &rt,
-        &mut watch,
-        &mut journal,
-        &[Ok(Some(Standing::Broken(5)))],
-    );
-    shows(&rt, &watch, &[1, 0, 2, 3]);
-    Ok(())
-}
-
-// The same out of a mailbox.
-#[test]
-fn draws_from_a_mailbox(rt: HostRuntime) -> Result<(), Fail> {
-    let stale = table(rt.alloc(), STALE)?;
-    let mut watch = running::<Numbers>(rt.alloc(), &stale, 64, 16_384)?;
-    let mut mailbox = posted(rt.alloc(), DAY)?;
-    draws(&rt, &mut watch, &mut mailbox, &[RUNNING; 4]);
-    draws(
-        &rt,
-        &mut watch,
-        &mut mailbox,
-        &[Ok(Some(Standing::Broken(5)))],
-    );
-    shows(&rt, &watch, &[1, 0, 2, 3]);
+// A call of a method that no line declares is an event of a journal and of a mailbox: it is skipped.
+fn draws_every_event<K: Kind>(rt: &impl Abort, heap: Global, day: &[u8]) -> Result<(), Fail> {
+    let mut journal: Journal<K> = Journal::open(day)?;
+    draws_the_stale_day::<K, _>(rt, heap, &mut journal, 5, &[1, 0, 2, 3])?;
+    assert_eq!(rt; journal.place(), day.len());
+    let mut mailbox = posted::<K>(heap, day)?;
+    draws_the_stale_day::<K, _>(rt, heap, &mut mailbox, 5, &[1, 0, 2, 3])?;
     assert!(rt; mailbox.next()?.is_none());
     Ok(())
 }
 
 // Narrowed to the declared methods, once or twice, the other call is no event.
+fn draws_narrowed<K: Kind>(rt: &impl Abort, heap: Global, day: &[u8]) -> Result<(), Fail> {
+    let journal: Journal<K> = Journal::open(day)?;
+    let mut once = Narrow::new(journal, &[3, 4, 5]);
+    draws_the_stale_day::<K, _>(rt, heap, &mut once, 4, &[1, 2, 3])?;
+    let journal: Journal<K> = Journal::open(day)?;
+    let mut twice = Narrow::new(Narrow::new(journal, &[3, 4, 5, 10]), &[5, 4, 3, 9]);
+    draws_the_stale_day::<K, _>(rt, heap, &mut twice, 4, &[1, 2, 3])?;
+    let mut once = Narrow::new(posted::<K>(heap, day)?, &[5, 4, 3]);
+    draws_the_stale_day::<K, _>(rt, heap, &mut once, 4, &[1, 2, 3])?;
+    let mut twice = Narrow::new(Narrow::new(posted::<K>(heap, day)?, &[5, 3, 4]), &[3, 4, 5]);
+    draws_the_stale_day::<K, _>(rt, heap, &mut twice, 4, &[1, 2, 3])
+}
+
+// The stale day in numbers, out of each source.
 #[test]
-fn draws_from_narrowings(rt: HostRuntime) -> Result<(), Fail> {
-    let heap = rt.alloc();
-    let journal: Journal<Numbers> = Journal::open(DAY)?;
-    draws_the_stale_day(&rt, heap, &mut Narrow::new(journal, &[3, 4, 5]))?;
-    let journal: Journal<Numbers> = Journal::open(DAY)?;
-    let some = Narrow::new(journal, &[3, 4, 5, 10]);
-    draws_the_stale_day(&rt, heap, &mut Narrow::new(some, &[5, 4, 3, 9]))?;
-    let mailbox = posted(heap, DAY)?;
-    draws_the_stale_day(&rt, heap, &mut Narrow::new(mailbox, &[5, 4, 3]))?;
-    let some = Narrow::new(posted(heap, DAY)?, &[5, 3, 4]);
-    draws_the_stale_day(&rt, heap, &mut Narrow::new(some, &[3, 4, 5]))
+fn draws_numbers(rt: HostRuntime) -> Result<(), Fail> {
+    draws_every_event::<Numbers>(&rt, rt.alloc(), DAY)?;
+    draws_narrowed::<Numbers>(&rt, rt.alloc(), DAY)
+}
+
+// The stale day in labels, out of each source.
+#[test]
+fn draws_labels(rt: HostRuntime) -> Result<(), Fail> {
+    draws_every_event::<Labels>(&rt, rt.alloc(), LABELLED)?;
+    draws_narrowed::<Labels>(&rt, rt.alloc(), LABELLED)
+}
+
+// A draw takes no more than its event.
+#[test]
+fn takes_one_event(rt: HostRuntime) -> Result<(), Fail> {
+    let stale = table(rt.alloc(), STALE)?;
+    let mut watch = running::<Numbers>(rt.alloc(), &stale, 64, 16_384)?;
+    let mut journal: Journal<Numbers> = Journal::open(DAY)?;
+    for place in [5, 9, 11, 13] {
+        draws(&rt, &mut watch, &mut journal, &[RUNNING]);
+        assert_eq!(rt; journal.place(), place);
+    }
+    Ok(())
 }
 
 // A source that refuses: the refusal is passed on, at each draw, and the watch and the source stay as they were.

@@ -3,6 +3,17 @@ use super::*;
 use mailbox::held::Mailbox;
 use sources::source::Source;
 
+// After g and p, r may come only with z behind it, twice.
+const LONGER: &[u8] = b"property Longer
+method g 1 0
+method p 2 0
+method r 3 0
+method z 4 0
+start -> a: call g()
+a -> done: call p(); call r(); call z(); call z()
+a -> error: call r()
+";
+
 // The stale day at a cap and a book, as far as it goes.
 fn watched<'a>(
     heap: Global,
@@ -172,37 +183,49 @@ fn takes_what_no_line_declares(rt: HostRuntime) -> Result<(), Fail> {
     Ok(())
 }
 
-// Broken: 31, and the path stays to be asked; a page one byte short gets 41 and stays as it was.
-#[test]
-fn stays_broken(rt: HostRuntime) -> Result<(), Fail> {
-    let stale = table(rt.alloc(), STALE)?;
-    let mut watch = watched(rt.alloc(), &stale, 64, 16_384)?;
+// Broken: 31, and the path of three steps stays to be asked; a page one byte short gets 41 and stays as it was.
+fn refuses_while_broken<'a>(
+    rt: &impl Abort,
+    heap: Global,
+    watch: &mut Watch<'a, Numbers>,
+    property: &'a Table,
+    position: usize,
+    [first, second, third]: [u8; 3],
+) -> Result<(), Fail> {
+    let short = Err(refusal(WatchReason::SmallPage, 4));
     for _ in 0..2 {
-        refuses_by_phase(
-            &rt,
-            rt.alloc(),
-            &mut watch,
-            refusal(WatchReason::IsBroken, 4),
-        )?;
-        refuses_another_begin(&rt, &mut watch, &stale, 4);
-        tells(&rt, &watch, Phase::Broken, 4, Some(4));
+        refuses_by_phase(rt, heap, watch, refusal(WatchReason::IsBroken, 4))?;
+        refuses_another_begin(rt, watch, property, 4);
+        tells(rt, watch, Phase::Broken, 4, Some(position));
         let mut page = [9; 5];
-        assert_eq!(rt;
-            watch.path(&mut page[..2]),
-            Err(refusal(WatchReason::SmallPage, 4))
-        );
-        assert_eq!(rt;
-            watch.path(&mut []),
-            Err(refusal(WatchReason::SmallPage, 4))
-        );
+        assert_eq!(rt; watch.path(&mut page[..2]), short);
+        assert_eq!(rt; watch.path(&mut []), short);
         assert_eq!(rt; page, [9; 5]);
         assert_eq!(rt; watch.path(&mut page[..3]), Ok(3));
-        assert_eq!(rt; page, [1, 2, 3, 9, 9]);
+        assert_eq!(rt; page, [first, second, third, 9, 9]);
         let mut longer = [9; 5];
         assert_eq!(rt; watch.path(&mut longer), Ok(3));
-        assert_eq!(rt; longer, [1, 2, 3, 9, 9]);
+        assert_eq!(rt; longer, [first, second, third, 9, 9]);
     }
     Ok(())
+}
+
+// What a feed breaks stays broken.
+#[test]
+fn stays_broken_by_a_feed(rt: HostRuntime) -> Result<(), Fail> {
+    let stale = table(rt.alloc(), STALE)?;
+    let mut watch = watched(rt.alloc(), &stale, 64, 16_384)?;
+    refuses_while_broken(&rt, rt.alloc(), &mut watch, &stale, 4, [1, 2, 3])
+}
+
+// What a close breaks stays broken, also before the last judged event.
+#[test]
+fn stays_broken_by_a_close(rt: HostRuntime) -> Result<(), Fail> {
+    let longer = table(rt.alloc(), LONGER)?;
+    let mut watch = running::<Numbers>(rt.alloc(), &longer, 64, 16_384)?;
+    runs_on(&rt, &mut watch, &[(2, &[]), (4, &[]), (6, &[]), (8, &[])]);
+    assert_eq!(rt; watch.close(), Ok(Standing::Broken(3)));
+    refuses_while_broken(&rt, rt.alloc(), &mut watch, &longer, 3, [1, 0, 3])
 }
 
 // Spilled: 32.
