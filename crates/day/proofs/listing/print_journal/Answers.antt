@@ -18,4 +18,4 @@ returns-in-None g c = (
 )
 
 pub returns-in-Err : goal.returns-in-Err
-returns-in-Err g c = (_, unopened c.in-Err.refusal c.in-Err.ensures, c.print_refusal.ensures)
+returns-in-Err g c = (_, unopened c.in-Err.refusal c.in-Err.ensures, c.write_refusal.ensures)
