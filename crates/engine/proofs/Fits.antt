@@ -1,5 +1,5 @@
 -- Patterns against places, one by one.
-use Rattle.std.proofs.Common.{◌≡◌, ℕ, suc, ◌+◌, ◌<◌, ◌≤◌, Bool, true, ◌&&◌, List, [], ◌∷◌, map, length, get_or, drop, vec_items, Decides, sym, refl, ap, ap₂, ◌∙◌, subst, add-one, arith}
+use Rattle.std.proofs.Common.{◌≡◌, ℕ, suc, ◌+◌, ◌<◌, ◌≤◌, Bool, true, ◌&&◌, List, [], ◌∷◌, map, length, get_or, drop, Decides, sym, refl, ap, ap₂, ◌∙◌, subst, add-one, arith}
 use lib.Seq.{get_or-drop}
 use Rattle.std.proofs.lemmas.List.{get_or-map, drop_more, drop-drop, length-map}
 use Rattle.std.proofs.lemmas.Bool.{eq-eqb}
@@ -16,13 +16,14 @@ use Rattle.tables.specs.declared.parts.Matcher.TheVariants.{Any as AnyEvent, Eve
 use Rattle.engine.specs.declared.window.Witnessed.{Witnessed}
 use Rattle.topl.specs.Lists.{same_class}
 use Rattle.topl.proofs.Basics.{same_tests, bool_same}
+use Rattle.tables.specs.Few.{few_items}
 use Rattle.tables.specs.Views.{pattern, matcher}
 use Rattle.engine.specs.Views.{Shown}
 
 -- the patterns of a matcher
 abbrev pub patterns_of : Matcher → List (Pattern Register)
 patterns_of AnyEvent = []
-patterns_of (OneEvent u) = vec_items u.patterns
+patterns_of (OneEvent u) = few_items u.patterns
 
 -- the class of a value that was read
 pub class_read : {V : Type 0} (class : V → Class) (xs : List V) (r : ℕ) (x : V) → r < length xs → x ≡ get_or xs r x → class x ≡ at (map class xs) r
@@ -49,12 +50,12 @@ module _ {V : Type 0} (class : V → Class) where
       ap₂ ◌&&◌ (ap (λ z. fits s z (pattern p)) here) (fits_zip s vs (suc j) ps xs later (omega arith))
 
   -- all pairs of a guard and an event fit, and the id is the guard's
-  pub meets_zip : (registers : List V) (u : Guard) (x : Witnessed V) (e : Event) → Shown class x e → length (vec_items u.patterns) ≤ 6 → u.id ≡ x.id →
-      list_all (λ (p : Pattern Register × V). fits (map class registers) (class p.1) (pattern p.0)) (zip (vec_items u.patterns) x.places) ≡ meets (map class registers) e (matcher (OneEvent u))
+  pub meets_zip : (registers : List V) (u : Guard) (x : Witnessed V) (e : Event) → Shown class x e → length (few_items u.patterns) ≤ 6 → u.id ≡ x.id →
+      list_all (λ (p : Pattern Register × V). fits (map class registers) (class p.1) (pattern p.0)) (zip (few_items u.patterns) x.places) ≡ meets (map class registers) e (matcher (OneEvent u))
   meets_zip registers u x e S six id =
       let long : length x.places ≡ 6 = sym (length-map x.places class) ∙ ap length S.1 in
-      fits_zip (map class registers) (places e) 0 (vec_items u.patterns) x.places (sym S.1) (omega arith)
-      ∙ ap (λ b. b && fits_all (map class registers) (places e) 0 (map pattern (vec_items u.patterns))) (sym (eq-eqb u.id e.id (id ∙ S.0)))
+      fits_zip (map class registers) (places e) 0 (few_items u.patterns) x.places (sym S.1) (omega arith)
+      ∙ ap (λ b. b && fits_all (map class registers) (places e) 0 (map pattern (few_items u.patterns))) (sym (eq-eqb u.id e.id (id ∙ S.0)))
 
   -- the writes of one pattern more; s was there at first
   pub write_step : (registers xs : List V) (ps : List (Pattern Register)) (s : Registers) (j : ℕ) (x : V) (after : List V) → j < length ps → j < length xs → x ≡ get_or xs j x → map class after ≡ written (map class registers) (class x) (pattern (get_or ps j Any)) →

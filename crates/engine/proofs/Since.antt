@@ -19,6 +19,7 @@ use Rattle.std.specs.List.{list_all}
 use Rattle.engine.specs.declared.front.Mark.{Mark}
 use Rattle.engine.specs.declared.grid.Grid as G
 use Rattle.tables.specs.declared.parts.Statement.{Statement}
+use Rattle.tables.specs.Few.{few_items}
 use Rattle.tables.specs.Views.{statement}
 use Rattle.engine.proofs.Matchers.{span_is}
 use Rattle.engine.specs.declared.scene.Position.{Position}
@@ -135,10 +136,10 @@ module _ (w : World) (q : ℕ) (c : Configuration) (p span : ℕ) (far : q + 1 �
   away : (n : ℕ) (t : Statement) → is_away c.state span t ≡ true → landed p (lands w q c (n, statement t)) ≡ []
   away n t a = ⊎_elim
       (λ b. ap (landed p) (cond-false (eqb t.source c.state) (landing_of q (n, statement t) (outcome_of w q c (n, statement t))) [] (not-true (eqb t.source c.state) b)))
-      (λ b. let long = span_is t.source t.target (vec_items t.events) t.some in
-      let d = not-true (eqb (length (vec_items t.events)) span) b in
-      lands_elsewhere w q c (n, statement t) p (λ z. true≢false (sym (eq-eqb (length (vec_items t.events)) span (omega arith)) ∙ d)))
-      (or_cases (not (eqb t.source c.state)) (not (eqb (length (vec_items t.events)) span)) a)
+      (λ b. let long = span_is t.source t.target (few_items t.events) t.some in
+      let d = not-true (eqb (length (few_items t.events)) span) b in
+      lands_elsewhere w q c (n, statement t) p (λ z. true≢false (sym (eq-eqb (length (few_items t.events)) span (omega arith)) ∙ d)))
+      (or_cases (not (eqb t.source c.state)) (not (eqb (length (few_items t.events)) span)) a)
 
   all_away : (n : ℕ) (ts : List Statement) → list_all (is_away c.state span) ts ≡ true → landed p (passing w q c (T.count_from n (map statement ts))) ≡ []
   all_away n [] a = landed_append w q c p (lands w q c (65, T.implied)) [] ∙ ap (λ z. z ++ []) (lands_elsewhere w q c (65, T.implied) p far)
@@ -165,8 +166,8 @@ near_all P c q judged ts e l a t m s = go 1 ts a (subst (λ z. t ∈ T.count_fro
     one : (u : Statement) → is_near c.state (judged - q) u ≡ true → u.source ≡ c.state → q + T.span (statement u) ≤ judged
     one u b s = ⊎_elim
         (λ d. absurd (true≢false (sym (eq-eqb u.source c.state s) ∙ not-true (eqb u.source c.state) d)))
-        (λ d. let long = span_is u.source u.target (vec_items u.events) u.some in let n = leb-true (length (vec_items u.events)) (judged - q) d in omega arith)
-        (or_cases (not (eqb u.source c.state)) (leb (length (vec_items u.events)) (judged - q)) b)
+        (λ d. let long = span_is u.source u.target (few_items u.events) u.some in let n = leb-true (length (few_items u.events)) (judged - q) d in omega arith)
+        (or_cases (not (eqb u.source c.state)) (leb (length (few_items u.events)) (judged - q)) b)
 
     go : (n : ℕ) (ts : List Statement) → list_all (is_near c.state (judged - q)) ts ≡ true → t ∈ T.count_from n (map statement ts) → q + T.span t.1 ≤ judged
     go n [] b m = subst (λ (z : ℕ × T.Statement). q + T.span z.1 ≤ judged) (sym (Memᴰ.eq_of_singleton m)) (omega arith)

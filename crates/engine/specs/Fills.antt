@@ -15,6 +15,7 @@ use Rattle.engine.specs.declared.front.Decision.{Decision}
 use Rattle.engine.specs.declared.front.Decision.TheVariants.{Breaks, Spills, Overfills}
 use Rattle.engine.specs.Modes.{mode_of}
 use Rattle.tables.specs.declared.parts.Statement.{Statement}
+use Rattle.tables.specs.Few.{few_items}
 use Rattle.tables.specs.Views.{statement}
 use Rattle.engine.specs.Views.{Seen}
 use Rattle.engine.specs.Trails.{steps_to, steps_by, room_of}
@@ -100,11 +101,11 @@ ReachedBy class x P k w g at = Reach P k w x.scene.now.base (stands_for class at
 
 -- does a statement of the code leave another state, or span more or fewer events
 abbrev pub is_away : ℕ → ℕ → Statement → Bool
-is_away state span t = not (t.source == state) || not (length (vec_items t.events) == span)
+is_away state span t = not (t.source == state) || not (length (few_items t.events) == span)
 
 -- does it leave another state, or span no more than so many events
 abbrev pub is_near : ℕ → ℕ → Statement → Bool
-is_near state most t = not (t.source == state) || nat_le (length (vec_items t.events)) most
+is_near state most t = not (t.source == state) || nat_le (length (few_items t.events)) most
 
 -- Of a configuration that stood at q when so many events were judged, an earlier call decided what its statements bring to p, and its skip if none of them
 -- goes past those events: it is held.

@@ -4,7 +4,7 @@ ghost use Rattle.std.specs.Prelude.{◌≤◌, length};
 use tables::parts::Matcher;
 
 // A statement with its number.
-// Kept apart from `Statement`, which owns a `Vec` of matchers: the implied one has its matcher on the stack.
+// Kept apart from `Statement`: it borrows the matchers, so that none is copied where a statement is tried.
 #[derive(Clone, Copy)]
 pub struct Numbered<'a> {
     pub number: u8,

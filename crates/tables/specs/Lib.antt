@@ -1,4 +1,5 @@
 pub mod Called
+pub mod Few
 pub mod Fits
 pub mod Keys
 pub mod Letters

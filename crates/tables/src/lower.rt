@@ -6,6 +6,7 @@ ghost use Rattle.property.specs.declared.table.Event.TheVariants as events;
 ghost use Rattle.tables.specs.Fits.{SlotFits, CallFits, AnswerFits, EventFits, StatementFits};
 ghost use Rattle.tables.specs.Views as views;
 
+use crate::few::Few;
 use crate::parts::{Guard, Matcher, Register, Statement};
 use property::table::{Answer, Call, Event, Register as Named, Slot, Statement as Written};
 use std::alloc::{AllocError, Global};
@@ -25,58 +26,58 @@ fn pattern(slot: &Slot) -> Pattern<Register>
 }
 
 // The guard of a call: any returned value, and a pattern for each parameter.
-fn called(heap: Global, call: &Call) -> Result<Matcher, AllocError>
+fn called(call: &Call) -> Matcher
     requires { CallFits call.now }
-    ensures { IfOk result (λ m. views.matcher m ≡ by.matcher (events.Calls call.now)) }
+    ensures { views.matcher result ≡ by.matcher (events.Calls call.now) }
 {
     let slots = &call.slots[..call.arity];
-    let mut patterns = Vec::with_capacity(heap, 1 + call.arity)?;
-    patterns.push(Pattern::Any)?;
+    let mut patterns = Few::new(Pattern::Any);
+    patterns.push(Pattern::Any);
     for slot in slots {
-        patterns.push(pattern(slot))?;
+        patterns.push(pattern(slot));
     }
     let id = 2 * call.number;
-    Ok(Matcher::Event(Guard { id, patterns }))
+    Matcher::Event(Guard { id, patterns })
 }
 
 // The guard of a return: a pattern for the returned value.
-fn returned(heap: Global, answer: &Answer) -> Result<Matcher, AllocError>
+fn returned(answer: &Answer) -> Matcher
     requires { AnswerFits answer.now }
-    ensures { IfOk result (λ m. views.matcher m ≡ by.matcher (events.Returns answer.now)) }
+    ensures { views.matcher result ≡ by.matcher (events.Returns answer.now) }
 {
-    let mut patterns = Vec::with_capacity(heap, 1)?;
-    patterns.push(pattern(&answer.slot))?;
+    let mut patterns = Few::new(Pattern::Any);
+    patterns.push(pattern(&answer.slot));
     let id = 2 * answer.number + 1;
-    Ok(Matcher::Event(Guard { id, patterns }))
+    Matcher::Event(Guard { id, patterns })
 }
 
 // What one event has to meet.
-fn matcher(heap: Global, event: &Event) -> Result<Matcher, AllocError>
+fn matcher(event: &Event) -> Matcher
     requires { EventFits event.now }
-    ensures { IfOk result (λ m. views.matcher m ≡ by.matcher event.now) }
+    ensures { views.matcher result ≡ by.matcher event.now }
 {
     match event {
-        Event::Any => Ok(Matcher::Any),
-        Event::Calls(call) => called(heap, call),
-        Event::Returns(answer) => returned(heap, answer),
+        Event::Any => Matcher::Any,
+        Event::Calls(call) => called(call),
+        Event::Returns(answer) => returned(answer),
     }
 }
 
 // A statement over the events that it spans.
-fn statement(heap: Global, written: &Written) -> Result<Statement, AllocError>
+fn statement(written: &Written) -> Statement
     requires { StatementFits written.now }
-    ensures { IfOk result (λ t. views.statement t ≡ by.statement written.now) }
+    ensures { views.statement result ≡ by.statement written.now }
 {
     let spanned = &written.events[..written.span];
-    let mut events = Vec::with_capacity(heap, written.span)?;
+    let mut events = Few::new(Matcher::Any);
     for event in spanned {
-        events.push(matcher(heap, event)?)?;
+        events.push(matcher(event));
     }
-    Ok(Statement {
+    Statement {
         source: written.source as u8,
         target: written.target as u8,
         events,
-    })
+    }
 }
 
 // The statements in order.
@@ -86,7 +87,7 @@ pub(crate) fn statements(heap: Global, all: &[Written]) -> Result<Vec<Statement>
 {
     let mut statements = Vec::with_capacity(heap, all.len())?;
     for written in all {
-        statements.push(statement(heap, written)?)?;
+        statements.push(statement(written))?;
     }
     Ok(statements)
 }

@@ -1,6 +1,8 @@
 // What the statements of a table are made of.
 ghost use Rattle.std.specs.Prelude.{◌≡◌, ◌<◌, ◌≤◌, length};
+ghost use Rattle.tables.specs.Few.{few_items};
 
+use crate::few::Few;
 use topl::pattern::Pattern;
 
 // One of the eight registers.
@@ -29,27 +31,27 @@ impl Register {
 }
 
 // An event of this id whose places from 0 on fit the patterns.
-#[derive(Drop)]
+#[derive(Clone, Copy)]
 pub struct Guard {
     pub id: u32,
-    pub patterns: Vec<Pattern<Register>>,
-    ghost six: { length patterns.items ≤ 6 },
+    pub patterns: Few<Pattern<Register>, 6>,
+    ghost six: { length (few_items patterns) ≤ 6 },
 }
 
 // What one event has to meet: nothing at all, or a guard.
 // Kept an enum of its own: the None of an Option would read as a matcher that nothing meets.
-#[derive(Drop)]
+#[derive(Clone, Copy)]
 pub enum Matcher {
     Any,
     Event(Guard),
 }
 
 // A statement: from one state to another over one to four events.
-#[derive(Drop)]
+#[derive(Clone, Copy)]
 pub struct Statement {
     pub source: u8,
     pub target: u8,
-    pub events: Vec<Matcher>,
-    ghost some: { 1 ≤ length events.items },
-    ghost few: { length events.items ≤ 4 },
+    pub events: Few<Matcher, 4>,
+    ghost some: { 1 ≤ length (few_items events) },
+    ghost few: { length (few_items events) ≤ 4 },
 }

@@ -1,7 +1,8 @@
 // What a table tells people: how it prints, its names and its counts.
 use super::*;
 use std::alloc::AllocError;
-use tables::parts::{Matcher, Register};
+use tables::few::Few;
+use tables::parts::{Guard, Matcher, Register, Statement};
 use tables::table::Table;
 use tables::table::names::RegisterName;
 use tables::text::read;
@@ -38,6 +39,31 @@ variable s
 variable flat
 ";
 
+// What copies of its statements, of their matchers and of their guards hold: states, ids and counts of patterns, and how registers are called.
+const COPIED: &str = "from 0 to 2
+event 6 over 2
+variable s
+event 7 over 1
+variable s
+from 2 to 3
+event 8 over 3
+variable flat
+constant <Night>
+any event
+event 10 over 1
+event 8 over 3
+constant <night>
+from 3 to 1
+event 9 over 1
+variable flat
+event 8 over 3
+variable flat
+variable s
+event 9 over 1
+variable flat
+event 11 over 1
+";
+
 // The table of the text.
 fn whole(heap: Global) -> Result<Table, Fail> {
     let mut table = Table::empty(heap);
@@ -64,17 +90,62 @@ fn add_called(text: &mut String, table: &Table, register: Register) -> Result<()
     }
 }
 
+// Adds a line for the register of each pattern of a guard in turn.
+fn add_guard(text: &mut String, table: &Table, guard: &Guard) -> Result<(), AllocError> {
+    for register in guard.patterns.iter().filter_map(register_of) {
+        add_called(text, table, register)?;
+    }
+    Ok(())
+}
+
 // A line for the register of each pattern in turn.
 fn called(heap: Global, table: &Table) -> Result<String, AllocError> {
     let mut text = String::new(heap);
     for statement in table.statements() {
         for matcher in &statement.events {
             if let Matcher::Event(guard) = matcher {
-                for register in guard.patterns.iter().filter_map(register_of) {
-                    add_called(&mut text, table, register)?;
-                }
+                add_guard(&mut text, table, guard)?;
             }
         }
+    }
+    Ok(text)
+}
+
+// Adds what a copy of a guard holds.
+fn add_copied_guard(text: &mut String, table: &Table, guard: &Guard) -> Result<(), AllocError> {
+    let copy = *guard;
+    writeln!(text, "event {} over {}", copy.id, copy.patterns.len())?;
+    add_guard(text, table, &copy)
+}
+
+// Adds what a copy of a statement holds, and copies of its matchers.
+fn add_copied(text: &mut String, table: &Table, statement: &Statement) -> Result<(), AllocError> {
+    let copy = *statement;
+    writeln!(text, "from {} to {}", copy.source, copy.target)?;
+    for matcher in &copy.events {
+        let taken = *matcher;
+        match &taken {
+            Matcher::Any => text.push_str("any event\n")?,
+            Matcher::Event(guard) => add_copied_guard(text, table, guard)?,
+        }
+    }
+    Ok(())
+}
+
+// What copies of the statements hold.
+fn copied(heap: Global, table: &Table) -> Result<String, AllocError> {
+    let mut text = String::new(heap);
+    for statement in table.statements() {
+        add_copied(&mut text, table, statement)?;
+    }
+    Ok(text)
+}
+
+// What clones of the statements hold.
+fn cloned(heap: Global, table: &Table) -> Result<String, AllocError> {
+    let mut text = String::new(heap);
+    for statement in table.statements() {
+        add_copied(&mut text, table, &statement.clone()?)?;
     }
     Ok(text)
 }
@@ -140,6 +211,28 @@ fn tells_of_a_text(rt: HostRuntime) -> Result<(), Fail> {
         ],
     );
     Ok(())
+}
+
+// The parts of a table are copied and cloned whole.
+#[test]
+fn copies_parts(rt: HostRuntime) -> Result<(), Fail> {
+    let heap = rt.alloc();
+    let table = whole(heap)?;
+    assert_eq!(rt; copied(heap, &table)?.as_str(), COPIED);
+    assert_eq!(rt; cloned(heap, &table)?.as_str(), COPIED);
+    Ok(())
+}
+
+// A short list takes as many items as it has places, hands the next one back, and is copied as it stands.
+#[test]
+fn fills_a_list(rt: HostRuntime) {
+    let mut list: Few<u8, 2> = Few::new(0);
+    assert_eq!(rt; list.try_push(7), Ok(()));
+    let copy = list;
+    assert_eq!(rt; list.try_push(8), Ok(()));
+    assert_eq!(rt; list.try_push(9), Err(9));
+    assert_eq!(rt; list.as_slice(), [7, 8].as_slice());
+    assert_eq!(rt; copy.as_slice(), [7].as_slice());
 }
 
 // The table that no text has filled.

@@ -3,6 +3,7 @@ ghost use Rattle.std.specs.Prelude.{◌≡◌, ◌/◌, Some, codes, map, flat_m
 ghost use Rattle.std.specs.Fmt.{DisplaysOnOk};
 ghost use Rattle.property.specs.Views.{declared};
 ghost use Rattle.tables.specs.Meant.{meant, names};
+ghost use Rattle.tables.specs.Few.{few_items};
 ghost use Rattle.tables.specs.Views as views;
 ghost use Rattle.tables.specs.Views.{number};
 ghost use Rattle.tables.specs.Written as by;
@@ -103,7 +104,7 @@ impl Table {
 
     // Writes the label of a call, whose first pattern stands for the returned value.
     fn write_call<W: fmt::Write>(&self, guard: &Guard, f: &mut fmt::Formatter<W>) -> fmt::Result
-        ensures { DisplaysOnOk W.write_str_gives f.old result (Some (by.call (names self.now) (guard.now.id / 2) (map views.pattern guard.now.patterns.items))) f.new }
+        ensures { DisplaysOnOk W.write_str_gives f.old result (Some (by.call (names self.now) (guard.now.id / 2) (map views.pattern (few_items guard.now.patterns)))) f.new }
     {
         write!(f, "call {}(", self.method_word(guard.id / 2))?;
         self.write_patterns(guard.patterns.get(1..).unwrap_or(&[]), f)?;
@@ -112,7 +113,7 @@ impl Table {
 
     // Writes the label of a return.
     fn write_return<W: fmt::Write>(&self, guard: &Guard, f: &mut fmt::Formatter<W>) -> fmt::Result
-        ensures { DisplaysOnOk W.write_str_gives f.old result (Some (by.answer (names self.now) (guard.now.id / 2) (map views.pattern guard.now.patterns.items))) f.new }
+        ensures { DisplaysOnOk W.write_str_gives f.old result (Some (by.answer (names self.now) (guard.now.id / 2) (map views.pattern (few_items guard.now.patterns)))) f.new }
     {
         f.write_str("ret ")?;
         self.write_patterns(&guard.patterns, f)?;
