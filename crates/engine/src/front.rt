@@ -23,9 +23,9 @@ pub struct Front {
 
 // A configuration's state, and its entry in the book.
 #[derive(Clone, Copy)]
-pub(crate) struct Mark {
-    pub(crate) state: u8,
-    pub(crate) entry: u16,
+pub struct Mark {
+    pub state: u8,
+    pub entry: u16,
 }
 
 // Where a run reaches `error`, and the last step of the run that is shown.
