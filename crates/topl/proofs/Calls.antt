@@ -1,5 +1,5 @@
 -- How calls come about: the ways in which code proves them, and in which they are taken apart.
-use Rattle.std.proofs.Common.{◌≡◌, ℕ, ◌⊎◌, List, ◌∷◌, Some, None, Option, sym, refl, ap, ◌∙◌, subst, inl, inr, arith}
+use Rattle.std.proofs.Common.{◌≡◌, ℕ, ◌⊎◌, List, [], ◌∷◌, Some, None, Option, sym, refl, ap, ◌∙◌, subst, inl, inr, arith}
 use Rattle.kinds.specs.declared.phase.Phase.{Phase}
 use Rattle.kinds.specs.declared.phase.Phase.TheVariants.{Blank, Running, Broken, Spilled, Full, Kept}
 use Rattle.kinds.specs.declared.refusal.Reason.{Reason}
@@ -8,7 +8,7 @@ use Rattle.topl.specs.Lists.{Class}
 use Rattle.topl.specs.Table.{Event, Table}
 use Rattle.topl.specs.Runs.{closing}
 use Rattle.topl.specs.Deciding.{Ruling}
-use Rattle.topl.specs.Ledger.{Answer, Begins, Closes, Draws, Feeds, Ledger, Settles, Source, began, begin_reason, begun, draws_by, event_reason, feed_reason, or_reason, phase_reason, refuse, rule, unless, with_event}
+use Rattle.topl.specs.Ledger.{Answer, Begins, Closes, Draws, Feeds, Ledger, Settles, Source, began, begin_reason, begun, draws_by, event_reason, feed_reason, or_reason, passed_on, phase_reason, refuse, rule, unless, with_event}
 
 -- a call is refused, or does what it does
 pub refused_or : (l : Ledger) (does : Ledger × Answer → Type 0) (o : Option Reason) (r : Ledger × Answer) → unless l o does r →
@@ -19,6 +19,9 @@ refused_or l does None r u = inr (refl, u)
 pub when_not : (l : Ledger) (does : Ledger × Answer → Type 0) (o : Option Reason) (r : Ledger × Answer) → o ≡ None → does r → unless l o does r
 when_not l does o r e d = subst (λ (z : Option Reason). unless l z does r) (sym e) d
 
+pub when_refused : (l : Ledger) (does : Ledger × Answer → Type 0) (o : Option Reason) (n : Reason) → o ≡ Some n → unless l o does (l, refuse l n)
+when_refused l does o n e = rw e refl
+
 -- where it is refused there is one answer
 pub is_refused : (l : Ledger) (does : Ledger × Answer → Type 0) (o : Option Reason) (n : Reason) (r : Ledger × Answer) → o ≡ Some n → unless l o does r → r ≡ (l, refuse l n)
 is_refused l does o n r e u = subst (λ (z : Option Reason). unless l z does r) e u
@@ -28,23 +31,42 @@ pub is_none : (l : Ledger) (does : Ledger × Answer → Type 0) (o : Option Reas
 is_none l does o r e u = subst (λ (z : Option Reason). unless l z does r) e u
 
 module _ (l : Ledger) where
-  -- a begin begins
+  -- a begin is refused, or begins
+  pub begins_refused : (P : Table) (ks : List Class) (cap : ℕ) (n : Reason) → begin_reason l P ks cap ≡ Some n → Begins l P ks cap (l, refuse l n)
+  begins_refused P ks cap n e = when_refused l (λ r. r ≡ (began l P ks cap, begun)) (begin_reason l P ks cap) n e
+
   pub begins_begun : (P : Table) (ks : List Class) (cap : ℕ) → begin_reason l P ks cap ≡ None → Begins l P ks cap (began l P ks cap, begun)
   begins_begun P ks cap e = when_not l (λ r. r ≡ (began l P ks cap, begun)) (begin_reason l P ks cap) (began l P ks cap, begun) e refl
 
-  -- a feed is ruled
+  -- a feed is refused by the phase, by the event, or ruled
+  pub feeds_not : (e : Event) (n : Reason) → phase_reason l.phase ≡ Some n → Feeds l e (l, refuse l n)
+  feeds_not e n i = when_refused l (Settles l (with_event l e) Running (rule l (with_event l e))) (feed_reason l e) n (ap (λ (o : Option Reason). or_reason o (event_reason l.table e)) i)
+
+  pub feeds_refused : (e : Event) (n : Reason) → l.phase ≡ Running → event_reason l.table e ≡ Some n → Feeds l e (l, refuse l n)
+  feeds_refused e n r i =
+      when_refused l (Settles l (with_event l e) Running (rule l (with_event l e))) (feed_reason l e) n (ap (λ (q : Phase). or_reason (phase_reason q) (event_reason l.table e)) r ∙ i)
+
   pub feeds_ruled : (e : Event) (x : Ruling) (r : Ledger × Answer) → l.phase ≡ Running → event_reason l.table e ≡ None → rule l (with_event l e) ≡ x → Settles l (with_event l e) Running x r → Feeds l e r
   feeds_ruled e x r i j k s =
       when_not l (Settles l (with_event l e) Running (rule l (with_event l e))) (feed_reason l e) r (ap (λ (q : Phase). or_reason (phase_reason q) (event_reason l.table e)) i ∙ j)
       (subst (λ (z : Ruling). Settles l (with_event l e) Running z r) (sym k) s)
 
-  -- a close is ruled
+  -- a close is refused by the phase, or ruled
+  pub closes_not : (n : Reason) → phase_reason l.phase ≡ Some n → Closes l (l, refuse l n)
+  closes_not n i = when_refused l (Settles l (closing l.judged) Kept (rule l (closing l.judged))) (phase_reason l.phase) n i
+
   pub closes_ruled : (x : Ruling) (r : Ledger × Answer) → l.phase ≡ Running → rule l (closing l.judged) ≡ x → Settles l (closing l.judged) Kept x r → Closes l r
   closes_ruled x r i k s =
       when_not l (Settles l (closing l.judged) Kept (rule l (closing l.judged))) (phase_reason l.phase) r (ap phase_reason i)
       (subst (λ (z : Ruling). Settles l (closing l.judged) Kept z r) (sym k) s)
 
-  -- a draw feeds the first event
+  -- a draw is refused by the phase, finds no event, or feeds the first
+  pub draws_not : (s : Source) (n : Reason) → phase_reason l.phase ≡ Some n → Draws l s (l, refuse l n) s
+  draws_not s n i = subst (λ (o : Option Reason). draws_by o l s (l, refuse l n) s) (sym i) (refl, refl)
+
+  pub draws_none : (end : Ending) → l.phase ≡ Running → Draws l (record { waiting = []; ending = end }) (l, passed_on end) (record { waiting = []; ending = end })
+  draws_none end i = subst (λ (q : Phase). draws_by (phase_reason q) l (record { waiting = []; ending = end }) (l, passed_on end) (record { waiting = []; ending = end })) (sym i) (refl, refl)
+
   pub draws_fed : (e : Event) (es : List Event) (end : Ending) (r : Ledger × Answer) → l.phase ≡ Running → Feeds l e r → Draws l (record { waiting = e ∷ es; ending = end }) r (record { waiting = es; ending = end })
   draws_fed e es end r i f = subst (λ (q : Phase). draws_by (phase_reason q) l (record { waiting = e ∷ es; ending = end }) r (record { waiting = es; ending = end })) (sym i) (f, refl)
 

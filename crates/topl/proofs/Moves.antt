@@ -64,6 +64,10 @@ module _ (w : World) (q : ℕ) (c : Configuration) (t : ℕ × Statement) (p : �
       ap (landed p) (cond-true (eqb t.1.source c.state) (landing_of q t (outcome_of w q c t)) [] (eq-eqb t.1.source c.state n) ∙ ap (landing_of q t) (sym h))
       ∙ cond-true (eqb (q + span t.1) p) (record { state = t.1.target; registers = s } ∷ []) [] (eq-eqb (q + span t.1) p e)
 
+  -- where it leaves another state
+  pub lands_away : (t.1.source ≡ c.state → ⊥) → landed p (lands w q c t) ≡ []
+  lands_away n = ap (landed p) (cond-false (eqb t.1.source c.state) (landing_of q t (outcome_of w q c t)) [] (ne_eqb t.1.source c.state n))
+
   -- where it leads to another position, if it passes
   pub lands_elsewhere : (q + span t.1 ≡ p → ⊥) → landed p (lands w q c t) ≡ []
   lands_elsewhere n = go (eqb t.1.source c.state) (outcome_of w q c t)
