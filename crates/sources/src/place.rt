@@ -1,5 +1,5 @@
 // Where a reader stands, and the guard that puts it back.
-ghost use Rattle.std.specs.Prelude.{◌≡◌, ◌+◌, ◌≤◌, drop, length, IfOk};
+ghost use Rattle.std.specs.Prelude.{◌≡◌, ◌+◌, ◌≤◌, drop, length, IfOk, OnErr};
 ghost use Rattle.std.specs.Fn.{FnReturnsAt};
 ghost use Rattle.sources.specs.Format.{moved};
 ghost use Rattle.sources.specs.Steps.{told};
@@ -24,6 +24,7 @@ impl Place<'_> {
         requires callable { R.IsAlwaysCallable read }
         requires short { (s : _) (r : _) → R.post read s r → IfOk r (λ t. t.1 ≤ length s.now) }
         ensures tells { (r : _) × FnReturnsAt R.Fn read (drop self.old.at self.old.bytes.now) r × (told result self.new.at ≡ moved self.old.at r) }
+        ensures stays { OnErr result (self.new.at ≡ self.old.at) }
         ensures same { self.new.bytes ≡ self.old.bytes }
     {
         let start = self.at;
