@@ -2,3 +2,5 @@
 #![tactic(auto)]
 
 pub mod finding;
+#[cfg(test)]
+mod tests;
