@@ -1,11 +1,12 @@
 -- Parts of a text, by place.
-use Rattle.std.proofs.Common.{◌≡◌, ℕ, zero, suc, ◌+◌, ◌-◌, ◌<◌, ◌≤◌, min, Bool, true, false, cond, not, ◌&&◌, ltb, leb, Some, None, Option, List, [], ◌∷◌, ◌++◌, length, get_or, take, drop, sym, refl, ap, ◌∙◌, subst, inl, inr, append_assoc, arith}
-use Rattle.std.proofs.lemmas.List.{append_cancel_right, take-append-drop, drop-drop, length-take-le, length-drop, get_or-drop, drop_more, drop_all, get_or_past, take_all}
-use Rattle.std.specs.List.{position}
+use Rattle.std.proofs.Common.{◌≡◌, ℕ, zero, suc, ◌+◌, ◌-◌, ◌<◌, ◌≤◌, min, Bool, true, false, cond, not, ◌&&◌, eqb, ltb, leb, Some, None, Option, List, [], ◌∷◌, ◌++◌, length, get_or, take, drop, sym, refl, ap, ◌∙◌, subst, inl, inr, append_assoc, arith}
+use Rattle.std.proofs.lemmas.List.{append_cancel_right, length-append, take-append-drop, drop-drop, length-take-le, length-drop, get_or-drop, drop_more, drop_all, get_or_past, take_all}
+use Rattle.std.specs.List.{position, starts_with}
 use Rattle.std.proofs.lemmas.List.Quantifiers.{position-Some}
 use Rattle.std.proofs.lemmas.List.Sums.{fails_before_first}
 use Rattle.std.proofs.lemmas.Bool.{cases_lt, not-false, not-true}
-use Rattle.std.proofs.lemmas.Bool.Decides.{nat_tests}
+use Rattle.std.proofs.lemmas.Bool.Decides.{nat_tests, Decides-eqb}
+use Rattle.std.proofs.lemmas.Slice.Eq.{starts_is}
 use Rattle.forms.specs.Bytes.{Every, Stops}
 use Rattle.property.specs.Reading.{Passed}
 use Rattle.property.specs.Views.{slice, spelled}
@@ -95,6 +96,24 @@ spelled_slice t f q h k = ap (λ (b : Bool). cond b (slice t f q) []) (inside f 
 
 whole : (t : List ℕ) (a : ℕ) → take (length t - a) (drop a t) ≡ drop a t
 whole t a = take_all (length t - a) (drop a t) (omega (arith, length-drop a t))
+
+every_get : (c : ℕ → Bool) (s r : List ℕ) (k : ℕ) → Every c s → k < length s → c (get_or (s ++ r) k 0) ≡ true
+every_get c [] r k e h = absurd (omega (arith, h))
+every_get c (b ∷ s) r zero e h = e.0
+every_get c (b ∷ s) r (suc k) e h = every_get c s r k e.1 (omega arith)
+
+-- Where bytes of the class stand, which the text is found to go on with at a place.
+pub goes_on : (c : ℕ → Bool) (t p : List ℕ) (a : ℕ) (b : Bool) → a ≤ length t → Every c p → b ≡ starts_with eqb (take (length t - a) (drop a t)) p → b ≡ true
+    → (a + length p ≤ length t) × ((k : ℕ) → a ≤ k → k < a + length p → c (get_or t k 0) ≡ true)
+goes_on c t p a b h e s y =
+    let v : drop a t ≡ p ++ drop (length p) (drop a t) = (starts_is Decides-eqb (drop a t) p b (s ∙ ap (λ (u : List ℕ). starts_with eqb u p) (whole t a))).0 y in (
+      omega (arith, ap length v, length-append p (drop (length p) (drop a t)), length-drop a t),
+      λ k i j.
+          let x : a + (k - a) ≡ k = omega arith in
+          sym (ap (λ (n : ℕ). c (get_or t n 0)) x)
+          ∙ (sym (ap c (get_or-drop a t (k - a) 0))
+          ∙ (ap (λ (u : List ℕ). c (get_or u (k - a) 0)) v ∙ every_get c p (drop (length p) (drop a t)) (k - a) e (omega arith))),
+    )
 
 -- Where the class is left first after a place.
 pub passed_to : (c : ℕ → Bool) (t : List ℕ) (a n : ℕ) (r : Option ℕ) → a ≤ length t → r ≡ position (λ b. not (c b)) (take (length t - a) (drop a t)) → r ≡ Some n

@@ -1,21 +1,27 @@
 -- Reading a text from its beginning to its end.
-use Rattle.std.proofs.Common.{◌≡◌, ℕ, ◌+◌, ◌-◌, ◌≤◌, Bool, true, false, cond, List, length, drop, IsErrAnd, Some, None, Ok, Err, Result, sym, refl, ap, subst, arith, length-drop, MatchResult}
+use Rattle.std.proofs.Common.{◌≡◌, ℕ, zero, suc, ◌+◌, ◌-◌, ◌<◌, ◌≤◌, Bool, true, false, cond, List, length, get_or, drop, IsErrAnd, Some, None, Ok, Err, Result, sym, refl, ap, subst, arith, length-drop, MatchResult}
+use Rattle.std.proofs.lemmas.Bool.Decides.{nat_tests}
+use Rattle.forms.specs.Bytes.{space, Every}
 use Rattle.forms.specs.Forms.{Refused, Accepted}
 use Rattle.forms.specs.Grammars.{form}
-use Rattle.forms.specs.Steps.{Carries}
+use Rattle.forms.specs.Steps.{Step, Carries}
 use Rattle.forms.proofs.Driver.{end_accepted, end_refused}
 use Rattle.forms.proofs.Laws.{apart, carries_step}
 use Rattle.kinds.specs.Refusals.{text_number}
-use Rattle.property.specs.Grammar.{any_text, text}
+use Rattle.property.specs.Cursors.{origin}
+use Rattle.property.specs.Grammar.{any_text, text, opens}
 use Rattle.property.specs.Outcomes.{Explains}
-use Rattle.property.specs.Reads.{Read, Halts, Finished}
-use Rattle.property.specs.States.{State, nothing_read, moved, closing, routed}
+use Rattle.property.specs.Reading.{Passed}
+use Rattle.property.specs.Reads.{Gapped, Read, Halts, Finished}
+use Rattle.property.specs.States.{State, nothing_read, at, margin, moved, closing, routed}
 use Rattle.property.specs.Views.{slice, spelled}
 use Rattle.property.specs.declared.reader.Flaw.{Flaw}
 use Rattle.property.specs.declared.reader.Found.{Found}
 use Rattle.property.specs.declared.text.Failure.{Failure}
 use Rattle.property.specs.declared.text.Failure.TheVariants.{At}
+use Rattle.property.proofs.Exits.{passes}
 use Rattle.property.proofs.Lawfulness.{lawful}
+use Rattle.property.proofs.Readings.{none_slice, lexed_byte}
 use Rattle.property.proofs.Texts.{split, length_slice}
 
 -- At the beginning.
@@ -36,6 +42,32 @@ carries_on t p a x c r =
     let i : x.name.to ≡ a + length (slice t a x.name.to) = (let j = length_slice t a x.name.to k r.high in omega arith) in
     carries_step any_text (form text p a) (form text (moved p (spelled t x.name) x.byte x.name.from) x.name.to) t a (slice t a x.name.to) x.name.to
     c (split t a x.name.to k) i r.step
+
+-- After the spaces before the keyword.
+margin_on : (t : List ℕ) (k : ℕ) → k < length t → space (get_or t k 0) ≡ true → Carries any_text (form text nothing_read k) t k
+    → Carries any_text (form text nothing_read (k + 1)) t (k + 1)
+margin_on t k h e c =
+    let low : k ≤ k = omega arith in
+    let high : k ≤ length t = omega arith in
+    let none = none_slice t k in
+    let g : Gapped true t k k =
+    record { low = low; high = high; spaces = subst (Every space) (sym none) tt; none = λ _. none; plain = λ z. apart true refl z } in
+    let b : get_or t k 0 ≡ 32 = grind (arith, nat_tests, e) in
+    let s = passes t nothing_read k k g (k + 1) (lexed_byte t k h) (ap (opens origin) b) refl in
+    let i : k + 1 ≡ k + length (slice t k (k + 1)) = (let j = length_slice t k (k + 1) (omega arith) (omega arith) in omega arith) in
+    carries_step any_text (form text nothing_read k) (form text nothing_read (k + 1)) t k (slice t k (k + 1)) (k + 1) c (split t k (k + 1) (omega arith)) i
+    (subst (λ (n : ℕ). Step (form text nothing_read k) (form text (at (margin n origin) nothing_read) (k + 1)) (slice t k (k + 1)) (drop (k + 1) t)) b s)
+
+margin_to : (t : List ℕ) (m : ℕ) → m ≤ length t → ((k : ℕ) → k < m → space (get_or t k 0) ≡ true) → Carries any_text (form text nothing_read m) t m
+margin_to t zero h f = carries_none t nothing_read refl
+margin_to t (suc m) h f =
+    let e : m + 1 ≡ suc m = omega arith in
+    subst (λ (n : ℕ). Carries any_text (form text nothing_read n) t n) e
+    (margin_on t m (omega arith) (f m (omega arith)) (margin_to t m (omega arith) (λ k l. f k (omega arith))))
+
+pub carries_margin : (t : List ℕ) (p : State) (m : ℕ) → p ≡ nothing_read → Passed space t 0 m → Carries any_text (form text p m) t m
+carries_margin t p m e x =
+    subst (λ (q : State). Carries any_text (form text q m) t m) (sym e) (margin_to t m x.high (λ k l. x.every k (omega arith) l))
 
 -- At a fault.
 pub carries_halt : (t : List ℕ) (p : State) (a n x : ℕ) → Carries any_text (form text p a) t a → Halts p t a n x → Refused any_text t n x

@@ -240,14 +240,14 @@ impl Reading<'_> {
     }
 
     // The fault of a piece; the first by number.
+    // Kept a word for each spot that needs one: the keyword's letters and most marks do not.
     pub(crate) fn flaw(&self, found: Found) -> Option<TextReason>
         ensures { told result ≡ first_flaw flaws self.now found }
     {
-        let w = spelled(self.text, found.name);
         match self.draft.cursor.spot {
-            Spot::Head(Head::Title) => name_flaw(w),
-            Spot::Line(line) => self.line_flaw(line, w),
-            Spot::Route(Route::Target) => self.state_flaw(w),
+            Spot::Head(Head::Title) => name_flaw(spelled(self.text, found.name)),
+            Spot::Line(line) => self.line_flaw(line, spelled(self.text, found.name)),
+            Spot::Route(Route::Target) => self.state_flaw(spelled(self.text, found.name)),
             Spot::Label(label) => self.label_flaw(label, found),
             Spot::Inner(inner) => self.inner_flaw(inner, found),
             Spot::Head(_) | Spot::Route(_) => None,

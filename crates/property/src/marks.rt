@@ -25,6 +25,8 @@ pub enum Mark {
 }
 
 // Which mark a character is.
+// Inlined, so that a test for one mark takes a comparison and no call.
+#[inline(always)]
 pub fn classify(c: char) -> Mark
     ensures { Means result c }
 {

@@ -10,15 +10,15 @@ const KEYWORD: [u8; 8] = *b"property";
 
 impl Head {
     // Whether the byte may come.
-    // Kept comparisons: to ask for the mark of each byte made a text with a long margin slower by half.
     pub(crate) fn opens(self, b: u8) -> bool
         ensures { result ≡ head_opens self b }
     {
-        match self {
-            Head::Margin => b == b' ' || b == b'p',
-            Head::Keyword(read) => b == KEYWORD[read.min(7)],
-            Head::Gap => b == b' ',
-            Head::Title => b.is_ascii_alphabetic(),
+        match (self, classify(char::from(b))) {
+            (Head::Margin | Head::Gap, Mark::Space) => true,
+            (Head::Margin, _) => b == b'p',
+            (Head::Keyword(read), _) => b == KEYWORD[read.min(7)],
+            (Head::Title, Mark::Capital | Mark::Small) => true,
+            _ => false,
         }
     }
 }

@@ -58,7 +58,7 @@ impl Reader<'_> {
         if spot.tight() {
             return self.place;
         }
-        skip(self.text, Class::Spaces, self.place)
+        skip_spaces(self.text, self.place)
     }
 
     // Whether a zero stands before the other digits of a number.

@@ -12,6 +12,7 @@ use crate::cursor::*;
 use crate::draft::*;
 use crate::reader::*;
 use crate::table::*;
+use crate::words::*;
 use forms::finding::Finding;
 use kinds::text_reason::TextReason;
 use std::alloc::{AllocError, Global};
@@ -80,7 +81,9 @@ fn read_any(heap: Global, text: &[u8]) -> Result<Draft, Failure>
     ensures { MatchResult result (λ d. Accepted any_text text.now (sofar text.now d)) (λ e. Explains text.now e) }
 {
     let mut draft = Draft::new(heap);
-    let mut reader = Reader { text, place: 0 };
+    // The spaces before the keyword change nothing, so they are passed at once.
+    let place = skip_spaces(text, 0);
+    let mut reader = Reader { text, place };
     while let Some(found) = reader.next(&draft)? {
         draft.advance(text, found)?;
         reader.place = found.name.to;

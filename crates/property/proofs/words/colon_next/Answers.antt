@@ -16,7 +16,7 @@ by_place t q (Some x) b h e z = ap (λ (n : ℕ). eqb n b.now) (e ∙ get_or_def
 pub returns : goal.returns
 returns c =
     let t = c.args.text.now in
-    let q = c.skip-end.result in
+    let q = c.skip_spaces-end.result in
     c.eq.ensures
     ∙ (by_place t q c.get.result _ c.get.ensures.lookup.0 c.get.ensures.lookup.1 refl
-    ∙ sym (ap (λ (n : ℕ). eqb n 58) (ap first_byte (past_passed space t c.args.at q c.skip-end.ensures) ∙ first_drop t q)))
+    ∙ sym (ap (λ (n : ℕ). eqb n 58) (ap first_byte (past_passed space t c.args.at q c.skip_spaces-end.ensures) ∙ first_drop t q)))
