@@ -352,6 +352,14 @@ impl Draft {
         self.add_statement()
     }
 
+    // A comma or a closing bracket is read.
+    // Kept apart from `label`, and `bare` from `inner`: with the cursor set in an arm there, each piece of a label cleared the memory of a whole cursor first.
+    fn comma(&mut self, byte: u8)
+        ensures { (t : List ℕ) → view t self.new ≡ state.label_moved Label.Comma (view t self.old) [] byte 0 }
+    {
+        self.cursor = self.cursor.closing(byte);
+    }
+
     // A piece of a label is read.
     fn label(&mut self, label: Label, text: &[u8], found: Found) -> Result<(), AllocError>
         ensures { OnOk result (view text.now self.new ≡ state.label_moved label (view text.now self.old) (spelling text.now found.name) found.byte found.name.from) }
@@ -363,10 +371,17 @@ impl Draft {
             Label::Equals => self.cursor.spot = Spot::Label(Label::Callee),
             Label::Callee => self.callee(text, found.name),
             Label::Open => self.cursor.spot = Spot::Inner(Inner::First),
-            Label::Comma => self.cursor = self.cursor.closing(found.byte),
+            Label::Comma => self.comma(found.byte),
             Label::End => return self.end(found.byte),
         }
         Ok(())
+    }
+
+    // A closing bracket with no parameter before it is read.
+    fn bare(&mut self)
+        ensures { (t : List ℕ) → view t self.new ≡ state.at (cursor.finished self.old.cursor) (view t self.old) }
+    {
+        self.cursor = self.cursor.finished();
     }
 
     // A piece of a pattern is read.
@@ -374,7 +389,7 @@ impl Draft {
         ensures { OnOk result (view text.now self.new ≡ state.inner_moved inner (view text.now self.old) (spelling text.now found.name) found.byte found.name.from) }
     {
         match inner {
-            Inner::First if found.byte == b')' => self.cursor = self.cursor.finished(),
+            Inner::First if found.byte == b')' => self.bare(),
             Inner::Returned | Inner::First | Inner::Param => return self.pattern(text, found),
             Inner::Negated(place) => return self.negated(text, found.name, place),
             Inner::Quoted(place) => return self.quoted(text, found.name, place),

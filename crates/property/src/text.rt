@@ -1,10 +1,12 @@
 // Reading a whole property text into a draft.
 ghost use Rattle.std.specs.Prelude.{◌≡◌, ℕ, List, Decides, MatchResult};
+ghost use Rattle.forms.specs.Bytes.{space};
 ghost use Rattle.forms.specs.Forms.{Accepted, Before};
 ghost use Rattle.kinds.specs.Refusals.{text_number};
 ghost use Rattle.property.specs.Grammar.{any_text, property_text};
 ghost use Rattle.property.specs.States.{nothing_read, routed as routes};
 ghost use Rattle.property.specs.Outcomes.{Explains, ExplainsBounded};
+ghost use Rattle.property.specs.Reading.{Passed};
 ghost use Rattle.property.specs.Views.{view, sofar};
 ghost use Rattle.property.specs.declared.text.Failure.TheVariants.{At, Memory};
 
@@ -76,13 +78,19 @@ fn routed(statements: &[Statement]) -> bool
         && statements.iter().any(|s| s.target == usize::from(ERROR))
 }
 
+// Where the spaces before the keyword end, which change nothing.
+fn margin(text: &[u8]) -> usize
+    ensures { Passed space text.now 0 result }
+{
+    skip_spaces(text, 0)
+}
+
 // The draft of a text of any length, or why there is none.
 fn read_any(heap: Global, text: &[u8]) -> Result<Draft, Failure>
     ensures { MatchResult result (λ d. Accepted any_text text.now (sofar text.now d)) (λ e. Explains text.now e) }
 {
     let mut draft = Draft::new(heap);
-    // The spaces before the keyword change nothing, so they are passed at once.
-    let place = skip_spaces(text, 0);
+    let place = margin(text);
     let mut reader = Reader { text, place };
     while let Some(found) = reader.next(&draft)? {
         draft.advance(text, found)?;

@@ -1,5 +1,4 @@
-use Rattle.std.proofs.Common.{◌≡◌, ℕ, ◌≤◌, Bool, true, false, List, length, sym, refl, ap, ◌∙◌, subst, arith, Bor}
-use Rattle.forms.specs.Bytes.{space}
+use Rattle.std.proofs.Common.{◌≡◌, ℕ, ◌≤◌, Bool, true, false, List, length, sym, refl, ap, ◌∙◌, subst, Bor}
 use Rattle.forms.specs.Forms.{Accepted, Refused}
 use Rattle.forms.specs.Grammars.{form}
 use Rattle.forms.specs.Steps.{Carries}
@@ -11,16 +10,14 @@ use Rattle.property.specs.States.{State, Property, moved, routed, closing}
 use Rattle.property.specs.declared.draft.Draft.{Draft}
 use Rattle.property.specs.declared.table.Statement.{Statement}
 use Rattle.property.specs.Views.{view, sofar, spelled}
-use Rattle.property.proofs.Texts.{passed_in}
 use Rattle.property.proofs.Wholes.{carries_margin, carries_on, carries_halt, ends_well, ends_lost, outward}
 use Rattle.property.proofs.text.read_any.Goals as goal
 
 pub loop-draft-init : goal.loop-draft-init
 loop-draft-init c =
     let t = c.args.text.now in
-    let m = c.skip_spaces-place.result in
-    let x = passed_in space t 0 m (omega arith) c.skip_spaces-place.ensures in
-    (refl, x.high, carries_margin t (view t c.new-draft.result) m (c.new-draft.ensures t) x)
+    let x = c.margin-place.ensures in
+    (refl, x.high, carries_margin t (view t c.new-draft.result) c.margin-place.result (c.new-draft.ensures t) x)
 
 pub returns-in_err-found : goal.returns-in_err-found
 returns-in_err-found c =
