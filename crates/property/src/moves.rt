@@ -353,7 +353,7 @@ impl Draft {
     }
 
     // A comma or a closing bracket is read.
-    // Kept apart from `label`, and `bare` from `inner`: with the cursor set in an arm there, each piece of a label cleared the memory of a whole cursor first.
+    // Kept apart from `label`, as `bare` is from `inner`: with the cursor set in an arm there, each of its pieces cleared the room of a whole cursor first.
     fn comma(&mut self, byte: u8)
         ensures { (t : List ℕ) → view t self.new ≡ state.label_moved Label.Comma (view t self.old) [] byte 0 }
     {
@@ -377,7 +377,7 @@ impl Draft {
         Ok(())
     }
 
-    // A closing bracket with no parameter before it is read.
+    // A closing bracket with no parameter before it is read. Kept apart from `inner`, as `comma` is from `label`.
     fn bare(&mut self)
         ensures { (t : List ℕ) → view t self.new ≡ state.at (cursor.finished self.old.cursor) (view t self.old) }
     {

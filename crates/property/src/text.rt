@@ -78,7 +78,7 @@ fn routed(statements: &[Statement]) -> bool
         && statements.iter().any(|s| s.target == usize::from(ERROR))
 }
 
-// Where the spaces before the keyword end, which change nothing.
+// Where the spaces at the text's beginning end. They change nothing, so reading begins after them.
 fn margin(text: &[u8]) -> usize
     ensures { Passed space text.now 0 result }
 {

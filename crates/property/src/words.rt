@@ -99,7 +99,7 @@ pub(crate) fn skip(text: &[u8], class: Class, at: usize) -> usize
 const EIGHT: [u8; 8] = *b"        ";
 
 // Where the spaces end that stand at a place, which counts up to the text's end.
-// Kept steps of eight: a step for each byte took up to a third more time, depending on where the loop lay in memory.
+// Kept steps of eight: a text of thousands of spaces took three times as long and more by a step for each byte.
 pub(crate) fn skip_spaces(text: &[u8], at: usize) -> usize
     ensures { Passed space text.now (min at (length text.now)) result }
 {
